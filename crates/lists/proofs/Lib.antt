@@ -1,0 +1,5 @@
+pub mod Cases
+pub mod Digits
+pub mod Over
+pub mod Stands
+pub mod Table
