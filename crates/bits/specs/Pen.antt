@@ -22,4 +22,4 @@ fullBytes p w v = digits 256 ((p .count + w) / 8) (joined p w v / 2 ^ ((p .count
 -- the pen after the w bits of v
 unfoldable pub penAfter : Pen → ℕ → ℕ → Pen
 penAfter p w v = record
-  { at = p .at + (p .count + w) / 8; count = (p .count + w) % 8; held = joined p w v % 2 ^ ((p .count + w) % 8) }
+    { at = p .at + (p .count + w) / 8; count = (p .count + w) % 8; held = joined p w v % 2 ^ ((p .count + w) % 8) }

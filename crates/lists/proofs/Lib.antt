@@ -3,3 +3,4 @@ pub mod Digits
 pub mod Over
 pub mod Stands
 pub mod Table
+pub mod One
