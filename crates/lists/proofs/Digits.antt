@@ -3,12 +3,12 @@
 use mathlib.Core.Path.{_≡_, refl, sym, ap, ap₂, _∙_, subst}
 use mathlib.Core.List.{List, [], _∷_, _++_}
 use Prim.Native.Nat.{ℕ, zero, suc, _+_, _-_, _*_, _/_, _%_, _^_, _<_, _≤_}
-use native.Mathlib.Nat.{mod-lt, mod-one, mod-eq-of-lt, mul-assoc, mul-comm, mul-one, one-mul, add-assoc, add-comm, add-mul, add-zero, zero-add, suc-add, zero-mul, pow-zero, pow-suc, pow-le-pow-right, one-le-pow, lt-of-lt-of-le, div-div-eq-div-mul, add-mul-div-right, mul-add-mod-self-right, le-refl, not-suc-le-zero, le-of-suc-le-suc}
+use native.Mathlib.Nat.{mod-lt, mod-one, mod-eq-of-lt, mul-assoc, mul-comm, mul-one, add-assoc, add-comm, add-mul, add-zero, zero-add, suc-add, zero-mul, pow-zero, pow-suc, pow-le-pow-right, one-le-pow, lt-of-lt-of-le, zero-div, zero-mod, div-div-eq-div-mul, div-add-mod', add-mul-div-right, mul-add-mod-self-right, le-refl, not-suc-le-zero}
 use native.Mathlib.Numerals.{add-one}
 use native.Mathlib.Omega.{arith}
 use lib.Arith.{digits-lt, digits-div, mod-mul}
-use lib.ListN.{length, take, drop, getD, length-append}
-use lib.Seq.{drop-cons}
+use lib.ListN.{length, take, drop, getD, replicate}
+use lib.Seq.{drop-cons, drop-at, take-at, getD-drop}
 use lib.Pow.{pow-add}
 use Rattle.lists.specs.Digits.{digits, numberFrom, number, Below}
 
@@ -57,6 +57,42 @@ digits-under b (suc k) n a r p h =
 
 pub digits-low : (b k a r : ℕ) → 0 < b → digits b k (a * b ^ k + r) ≡ digits b k r
 digits-low b k a r p = digits-under b k k a r p (le-refl k)
+
+-- the digits of the remainder
+pub digits-rem : (b k v : ℕ) → 0 < b → digits b k (v % b ^ k) ≡ digits b k v
+digits-rem b k v p = sym (digits-low b k (v / b ^ k) (v % b ^ k) p) ∙ ap (digits b k) (div-add-mod' v (b ^ k))
+
+-- the digits of 0
+pub digits-zero : (b k : ℕ) → digits b k 0 ≡ replicate k 0
+unfolding digits
+digits-zero b zero = refl
+digits-zero b (suc k) = ap₂ (λ (x : ℕ) (l : List ℕ). x ∷ l) (ap (λ (x : ℕ). x % b) (zero-div (b ^ k)) ∙ zero-mod b) (digits-zero b k)
+
+-- the digits of a number and, below them, of another
+pub digits-join : (b m n a v : ℕ) → 0 < b → v < b ^ n → digits b (m + n) (a * b ^ n + v) ≡ digits b m a ++ digits b n v
+digits-join b m n a v p h = digits-add b m n (a * b ^ n + v) ∙ ap₂ (λ (x y : List ℕ). x ++ y) (ap (digits b m) (digits-div a h)) (digits-low b n a v p)
+
+-- a run of a number's digits, with o digits before it and r after it
+pub digits-run : (b o w r v : ℕ) → take w (drop o (digits b (o + (w + r)) v)) ≡ digits b w (v / b ^ r)
+digits-run b o w r v =
+    ap (λ (l : List ℕ). take w (drop o l)) (digits-add b o (w + r) v)
+    ∙ ap (take w) (drop-at (digits b o (v / b ^ (w + r))) (digits b (w + r) v) o (length-digits b o (v / b ^ (w + r))) ∙ digits-add b w r v)
+    ∙ take-at (digits b w (v / b ^ r)) (digits b r v) w (length-digits b w (v / b ^ r))
+
+-- runs of digits one after the other, and parts of a run
+pub below-append : (b : ℕ) (xs ys : List ℕ) → Below b xs → Below b ys → Below b (xs ++ ys)
+below-append b [] ys h g k = g k
+below-append b (x ∷ xs) ys h g zero = h 0
+below-append b (x ∷ xs) ys h g (suc k) = below-append b xs ys (λ i. h (suc i)) g k
+
+pub below-take : (b n : ℕ) (xs : List ℕ) → Below b xs → Below b (take n xs)
+below-take b zero xs h k = omega (arith, h k)
+below-take b (suc n) [] h k = h k
+below-take b (suc n) (x ∷ xs) h zero = h 0
+below-take b (suc n) (x ∷ xs) h (suc k) = below-take b n xs (λ i. h (suc i)) k
+
+pub below-drop : (b n : ℕ) (xs : List ℕ) → Below b xs → Below b (drop n xs)
+below-drop b n xs h k = subst (λ (x : ℕ). x < b) (sym (getD-drop n xs k 0)) (h (n + k))
 
 -- the digit at i
 pub digit-at : (b k v i : ℕ) → i < k → getD (digits b k v) i 0 ≡ v / b ^ (k - 1 - i) % b

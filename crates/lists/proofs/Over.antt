@@ -1,13 +1,13 @@
 -- Laws of `over`: nothing written, one byte, one run after another, and the turns of loops that copy or fill.
 -- Assumes nothing.
-use mathlib.Core.Path.{_≡_, refl, sym, ap, _∙_}
+use mathlib.Core.Path.{_≡_, refl, sym, ap, ap₂, _∙_}
 use mathlib.Core.List.{List, [], _∷_, _++_, append-assoc, append-nil}
-use Prim.Native.Nat.{ℕ, suc, _+_, _-_, _≤_, _<_}
+use Prim.Native.Nat.{ℕ, _+_, _-_, _≤_, _<_}
 use native.Mathlib.Omega.{arith}
 use native.Mathlib.Numerals.{add-one}
 use native.Mathlib.Nat.{add-assoc, add-zero}
 use lib.ListN.{length, take, drop, set, replicate, getD, replicate-append-replicate, length-append, length-drop, length-replicate, take-append-drop, drop-of-length-le}
-use lib.Seq.{drop-append-le, length-take-le, take-append-add, drop-append-add, take-at, drop-drop, set-split, take-suc}
+use lib.Seq.{drop-append-le, length-take-le, take-at, drop-at, drop-drop, set-split, take-suc}
 use Rattle.lists.specs.Over.{over, Wrote}
 
 pub over-nil : (xs : List ℕ) (a : ℕ) → over xs a [] ≡ xs
@@ -22,20 +22,30 @@ pub length-over : (xs : List ℕ) (a : ℕ) (ys : List ℕ) → a + length ys �
 unfolding over
 length-over xs a ys h = simp (length-append, length-drop) (omega (arith, length-take-le a xs (omega arith)))
 
+-- what stands up to the end of the run, and what stands after it
+pub take-over : (xs : List ℕ) (a : ℕ) (ys : List ℕ) → a ≤ length xs → take (a + length ys) (over xs a ys) ≡ take a xs ++ ys
+unfolding over
+take-over xs a ys h =
+    let p = take a xs in
+    ap (take (a + length ys)) (sym (append-assoc p ys (drop (a + length ys) xs)))
+    ∙ take-at (p ++ ys) (drop (a + length ys) xs) (a + length ys) (length-append p ys ∙ ap (λ (k : ℕ). k + length ys) (length-take-le a xs h))
+
+pub drop-over : (xs : List ℕ) (a : ℕ) (ys : List ℕ) → a ≤ length xs → drop (a + length ys) (over xs a ys) ≡ drop (a + length ys) xs
+unfolding over
+drop-over xs a ys h =
+    let p = take a xs in
+    ap (drop (a + length ys)) (sym (append-assoc p ys (drop (a + length ys) xs)))
+    ∙ drop-at (p ++ ys) (drop (a + length ys) xs) (a + length ys) (length-append p ys ∙ ap (λ (k : ℕ). k + length ys) (length-take-le a xs h))
+
 -- one run after the other
 pub over-over : (xs : List ℕ) (a : ℕ) (ys zs : List ℕ) → a ≤ length xs → over (over xs a ys) (a + length ys) zs ≡ over xs a (ys ++ zs)
 unfolding over
 over-over xs a ys zs h =
-    let p = take a xs in
-    let r = drop (a + length ys) xs in
-    let lp : length p ≡ a = length-take-le a xs h in
-    let e1 : take (a + length ys) (p ++ (ys ++ r)) ≡ p ++ ys =
-    ap (λ (l : List ℕ). take (a + length ys) l) (sym (append-assoc p ys r)) ∙ take-at (p ++ ys) r (a + length ys) (length-append p ys ∙ ap (λ (k : ℕ). k + length ys) lp) in
-    let e2 : drop (a + length ys + length zs) (p ++ (ys ++ r)) ≡ drop (length zs) r =
-    ap (λ (l : List ℕ). drop (a + length ys + length zs) l) (sym (append-assoc p ys r))
-    ∙ ap (λ (k : ℕ). drop (k + length zs) ((p ++ ys) ++ r)) (sym (length-append p ys ∙ ap (λ (k : ℕ). k + length ys) lp))
-    ∙ drop-append-add (p ++ ys) r (length zs) in
-    rw (e1, e2, drop-drop) (simp (append-assoc, length-append, add-assoc))
+    let t = over xs a ys in
+    let rest : drop (a + length ys + length zs) t ≡ drop (a + length (ys ++ zs)) xs =
+    sym (drop-drop (length zs) (a + length ys) t) ∙ ap (drop (length zs)) (drop-over xs a ys h) ∙ drop-drop (length zs) (a + length ys) xs
+    ∙ ap (λ (n : ℕ). drop n xs) (add-assoc a (length ys) (length zs) ∙ ap (λ (n : ℕ). a + n) (sym (length-append ys zs))) in
+    ap₂ (λ (f r : List ℕ). f ++ (zs ++ r)) (take-over xs a ys h) rest ∙ simp append-assoc
 
 -- a run that is as long as the list
 pub over-all : (xs ys : List ℕ) → length ys ≡ length xs → over xs 0 ys ≡ ys
