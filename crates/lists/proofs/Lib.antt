@@ -4,3 +4,4 @@ pub mod Over
 pub mod Stands
 pub mod Table
 pub mod One
+pub mod Same
