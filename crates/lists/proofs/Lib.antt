@@ -1,7 +1,9 @@
 pub mod Cases
+pub mod Below
 pub mod Digits
 pub mod Over
+pub mod Writing
 pub mod Stands
+pub mod Same
 pub mod Table
 pub mod One
-pub mod Same
