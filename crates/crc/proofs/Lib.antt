@@ -1,0 +1,10 @@
+pub mod Xor
+pub mod Bits
+pub mod Register
+pub mod Serial
+pub mod Slices
+pub mod Lookup
+pub mod Words
+pub mod Entries
+pub mod Wider
+pub mod One
