@@ -1,0 +1,158 @@
+//! Runs the vectors of a third implementation: files of tab separated lines, in the folder named
+//! by BALLASTWREN_VECTORS or found near the crate. Without the folder the tests say so and pass.
+
+use std::env;
+use std::fs;
+use std::path::PathBuf;
+
+use reference::{gain, listing, pmd_read, pmd_write, rows, scrub, Gain, Refusal, Sheet};
+
+fn folder() -> Option<PathBuf> {
+    let found = match env::var_os("BALLASTWREN_VECTORS") {
+        Some(path) => PathBuf::from(path),
+        None => PathBuf::from(env!("CARGO_MANIFEST_DIR")).join("../../shared/vectors"),
+    };
+    found.is_dir().then_some(found)
+}
+
+/// Runs one file of vectors.
+fn run(file: &str) {
+    let Some(folder) = folder() else {
+        println!("no folder of vectors: {file} skipped");
+        return;
+    };
+    let text = fs::read_to_string(folder.join(file)).expect("the file can be read");
+    let mut count = 0;
+    for (index, line) in text.lines().enumerate() {
+        if line.is_empty() || line.starts_with('#') {
+            continue;
+        }
+        let (inputs, results) = line.split_once("\t=>\t").expect("a line has a result");
+        let inputs: Vec<&str> = inputs.split('\t').collect();
+        assert_eq!(answer(&inputs), results, "{file}:{}", index + 1);
+        count += 1;
+    }
+    assert!(count > 0, "no vectors in {file}");
+    println!("{file}: {count} vectors");
+}
+
+/// What this implementation answers, in the words of the vectors.
+fn answer(inputs: &[&str]) -> String {
+    match *inputs {
+        ["read", "base", pack] => read_answer(&bytes(pack)),
+        ["sheet", "base", sheet] => sheet_answer(&bytes(sheet)),
+        ["scrub", "base", sheet, pack, out] => {
+            let mut out = bytes(out);
+            let result = scrub(&bytes(sheet), &bytes(pack), &mut out);
+            format!("{}\t{}", outcome(result), hex(&out))
+        }
+        ["pmd_read", "base", kind, value, numbers] => {
+            let mut numbers = list(numbers);
+            let result = pmd_read(kind.parse().unwrap(), &bytes(value), &mut numbers);
+            format!("{}\t{}", outcome(result), join(&numbers))
+        }
+        ["pmd_write", "base", kind, numbers, out] => {
+            let mut out = bytes(out);
+            let result = pmd_write(kind.parse().unwrap(), &list(numbers), &mut out);
+            format!("{}\t{}", outcome(result), hex(&out))
+        }
+        ["gain", "base", number] => match gain(number.parse().unwrap()) {
+            Ok(Gain::Muted) => "ok muted".to_string(),
+            Ok(Gain::HalfDecibels(half)) => format!("ok {half}"),
+            Err(refusal) => refused(refusal),
+        },
+        _ => panic!("unknown vector {inputs:?}"),
+    }
+}
+
+/// The listing with its lines joined; the check and the rows must agree with it.
+fn read_answer(pack: &[u8]) -> String {
+    let text = listing(pack);
+    let checked = reference::check(pack);
+    let mut table = [0; 8 * 65];
+    match checked {
+        Ok(count) => {
+            assert_eq!(text.lines().count(), 1 + count);
+            assert_eq!(rows(pack, &mut table), Ok(8 * (1 + count)));
+            assert_eq!(table[2] as usize, count);
+        }
+        Err(refusal) => {
+            assert_eq!(text, format!("{}\n", refused(refusal)));
+            assert_eq!(rows(pack, &mut table), Err(refusal));
+        }
+    }
+    text.trim_end().replace('\n', "|")
+}
+
+fn sheet_answer(sheet: &[u8]) -> String {
+    match Sheet::read(sheet) {
+        Ok(Sheet::All) => "ok all".to_string(),
+        Ok(Sheet::Only(names)) => {
+            let labels: Vec<String> = names.labels().iter().map(|label| hex(label)).collect();
+            let labels = if labels.is_empty() {
+                "-".into()
+            } else {
+                labels.join(",")
+            };
+            let numbers: Vec<u32> = names.numbers().collect();
+            format!("ok labels={labels} numbers={}", join(&numbers))
+        }
+        Err(refusal) => refused(refusal),
+    }
+}
+
+fn outcome(result: Result<usize, Refusal>) -> String {
+    match result {
+        Ok(count) => format!("ok {count}"),
+        Err(refusal) => refused(refusal),
+    }
+}
+
+fn refused(refusal: Refusal) -> String {
+    format!("refused {} {}", refusal.number, refusal.place)
+}
+
+fn bytes(text: &str) -> Vec<u8> {
+    if text == "-" {
+        return Vec::new();
+    }
+    let pairs = text.as_bytes().chunks(2);
+    let pairs = pairs.map(|pair| std::str::from_utf8(pair).unwrap());
+    pairs
+        .map(|pair| u8::from_str_radix(pair, 16).unwrap())
+        .collect()
+}
+
+fn hex(bytes: &[u8]) -> String {
+    if bytes.is_empty() {
+        return "-".to_string();
+    }
+    bytes.iter().map(|byte| format!("{byte:02x}")).collect()
+}
+
+fn list(text: &str) -> Vec<u32> {
+    if text == "-" {
+        return Vec::new();
+    }
+    text.split(',')
+        .map(|number| number.parse().unwrap())
+        .collect()
+}
+
+fn join(numbers: &[u32]) -> String {
+    if numbers.is_empty() {
+        return "-".to_string();
+    }
+    let words: Vec<String> = numbers.iter().map(u32::to_string).collect();
+    words.join(",")
+}
+
+#[test]
+fn base() {
+    run("base.tsv");
+}
+
+#[test]
+fn tiny() {
+    run("tiny.tsv");
+}
