@@ -1,0 +1,40 @@
+//! The archive's functions, each wrapped once.
+
+use reference::Refusal;
+
+/// Number 0 and a count, or a refusal's number and its place.
+#[repr(C)]
+#[derive(Clone, Copy, PartialEq, Eq, Debug)]
+pub struct Answer {
+    pub number: u64,
+    pub value: u64,
+}
+
+extern "C" {
+    fn bw_check(pack: *const u8, pack_len: usize) -> Answer;
+    fn bw_pmd_read(kind: u32, value: *const u8, value_len: usize, numbers: *mut u32, numbers_len: usize) -> Answer;
+    fn bw_pmd_write(kind: u32, numbers: *const u32, numbers_len: usize, out: *mut u8, out_len: usize) -> Answer;
+}
+
+pub fn check(pack: &[u8]) -> Answer {
+    // SAFETY: the range is that of a slice, and the function only reads it.
+    unsafe { bw_check(pack.as_ptr(), pack.len()) }
+}
+
+pub fn pmd_read(kind: u32, value: &[u8], numbers: &mut [u32]) -> Answer {
+    // SAFETY: both ranges are those of slices, and only the second, which nothing else holds, is written.
+    unsafe { bw_pmd_read(kind, value.as_ptr(), value.len(), numbers.as_mut_ptr(), numbers.len()) }
+}
+
+pub fn pmd_write(kind: u32, numbers: &[u32], out: &mut [u8]) -> Answer {
+    // SAFETY: both ranges are those of slices, and only the second, which nothing else holds, is written.
+    unsafe { bw_pmd_write(kind, numbers.as_ptr(), numbers.len(), out.as_mut_ptr(), out.len()) }
+}
+
+/// The reference's answer in the archive's form.
+pub fn told(answer: Result<usize, Refusal>) -> Answer {
+    match answer {
+        Ok(count) => Answer { number: 0, value: count as u64 },
+        Err(refusal) => Answer { number: refusal.number.into(), value: refusal.place as u64 },
+    }
+}

@@ -1,0 +1,83 @@
+//! The packs and PMD values that are timed.
+
+use reference::pmd_write;
+
+const KEY: [u8; 16] = [0x06, 0x0E, 0x2B, 0x34, 0x02, 0x7F, 0x01, 0x01, 0x0C, 0x04, 0x01, 0x00, 0x00, 0x00, 0x00, 0x00];
+
+pub struct Pack {
+    pub name: String,
+    pub bytes: Vec<u8>,
+}
+
+pub struct Value {
+    pub name: &'static str,
+    pub kind: u32,
+    pub numbers: Vec<u32>,
+    pub bytes: Vec<u8>,
+}
+
+fn length(n: usize) -> Vec<u8> {
+    match n {
+        0..=0x7F => vec![n as u8],
+        0x80..=0xFF => vec![0x81, n as u8],
+        _ => vec![0x82, (n >> 8) as u8, n as u8],
+    }
+}
+
+fn element(tag: u8, value: &[u8]) -> Vec<u8> {
+    [&[tag], length(value.len()).as_slice(), value].concat()
+}
+
+fn pack(name: String, body: &[u8]) -> Pack {
+    let bytes = [&KEY, length(body.len()).as_slice(), body].concat();
+    Pack { name, bytes }
+}
+
+/// `count` payloads of `size` bytes, with tags from 64 on in turn.
+fn payloads(count: usize, size: usize) -> Vec<u8> {
+    (0..count).flat_map(|i| element(64 + (i % 32) as u8, &vec![i as u8; size])).collect()
+}
+
+/// A Config that maps tags 64 to 95 to labels which differ in their last bytes.
+fn config() -> Vec<u8> {
+    let mut value = vec![0, 7];
+    for i in 0..32 {
+        value.push(64 + i);
+        value.extend([0x06, 0x0E, 0x2B, 0x34, 0x04, 0x01, 0x01, 0x0D, 0x0E, 0x09, 0x06, 0x07, 0x01, 0x01, 0x01, i]);
+    }
+    element(1, &value)
+}
+
+fn syncs(count: usize) -> Vec<u8> {
+    (0..count).flat_map(|i| element(2, &[vec![0, i as u8, 0, 9], payloads(2, 12)].concat())).collect()
+}
+
+pub fn packs() -> Vec<Pack> {
+    let mut packs = Vec::new();
+    for count in [1, 38, 40, 64] {
+        packs.push(pack(format!("{count} payloads of 12 bytes"), &payloads(count, 12)));
+        packs.push(pack(format!("{count} labelled payloads, 32 mappings"), &[config(), payloads(count, 12)].concat()));
+    }
+    packs.push(pack("60 payloads of 500 bytes".into(), &payloads(60, 500)));
+    packs.push(pack("20 Syncs of two payloads".into(), &syncs(20)));
+    packs
+}
+
+fn value(name: &'static str, kind: u32, numbers: Vec<u32>) -> Value {
+    let mut bytes = vec![0; 4096];
+    let size = pmd_write(kind, &numbers, &mut bytes).expect("the numbers are a value of their kind");
+    bytes.truncate(size);
+    Value { name, kind, numbers, bytes }
+}
+
+pub fn values() -> Vec<Value> {
+    let objects = (1..=64).flat_map(|e| [e, e % 7, e % 2, 512, e * 9, 1023, e % 32, 0, 1, e * 3 % 256, e % 64]).collect();
+    let positions = std::iter::once(5).chain((1..=90).flat_map(|e| [e, 1 + e * 11 % 1023, 512, 1023])).collect();
+    let name = [7].into_iter().chain((0..3000).map(|i| 65 + i % 26)).chain([0]).collect();
+    vec![
+        value("64 object descriptions", 3, objects),
+        value("90 positions", 4, positions),
+        value("a name of 3,000 bytes", 5, name),
+        value("one presentation", 1, vec![1, 0, 5568, 3, 4, 0]),
+    ]
+}
