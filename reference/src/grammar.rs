@@ -1,6 +1,6 @@
 //! The records of the six PMD kinds as a table.
 
-use crate::bits::{Lanes, WINDOW};
+use crate::{Reason, Refusal};
 
 /// Which numbers a field refuses, besides those too wide for it.
 #[derive(Clone, Copy)]
@@ -16,92 +16,79 @@ enum Rule {
 pub struct Field {
     pub width: u32,
     rule: Rule,
+    /// Whether the field is repeated until it is 0.
+    pub until_zero: bool,
 }
 
-const fn field(width: u32, rule: Rule) -> Field {
-    Field { width, rule }
+const fn once(width: u32, rule: Rule) -> Field {
+    Field {
+        width,
+        rule,
+        until_zero: false,
+    }
 }
 
-const PRESENTATION: Field = field(9, Rule::NotZero);
-const ELEMENT: Field = field(12, Rule::NotZero);
-const SUBSTREAM: Field = field(4, Rule::NotZero);
-const SPEAKER_CONFIG: Field = field(5, Rule::SpeakerConfig);
-const LANGCOD: Field = field(15, Rule::Langcod);
-const CLASS: Field = field(4, Rule::Class);
-const COORDINATE: Field = field(10, Rule::NotZero);
-const DYNAMIC: Field = field(1, Rule::Any);
-const SIZE: Field = field(5, Rule::Any);
-const SIZE_3D: Field = field(1, Rule::Any);
-const DIVERGE: Field = field(1, Rule::Any);
-const SOURCE: Field = field(8, Rule::Any);
-const GAIN: Field = field(6, Rule::Any);
-const SAMPLE_TIME: Field = field(6, Rule::Any);
+const fn until_zero(width: u32) -> Field {
+    Field {
+        width,
+        rule: Rule::Any,
+        until_zero: true,
+    }
+}
 
-/// Elements until one is 0, and bytes of a name until one is 0.
-const ELEMENTS: Option<Lanes> = Some(Lanes::new(12));
-const NAME: Option<Lanes> = Some(Lanes::new(8));
+const PRESENTATION: Field = once(9, Rule::NotZero);
+const ELEMENT: Field = once(12, Rule::NotZero);
+const SUBSTREAM: Field = once(4, Rule::NotZero);
+const SPEAKER_CONFIG: Field = once(5, Rule::SpeakerConfig);
+const LANGCOD: Field = once(15, Rule::Langcod);
+const CLASS: Field = once(4, Rule::Class);
+const DYNAMIC: Field = once(1, Rule::Any);
+const X: Field = once(10, Rule::NotZero);
+const Y: Field = once(10, Rule::NotZero);
+const Z: Field = once(10, Rule::NotZero);
+const SIZE: Field = once(5, Rule::Any);
+const SIZE_3D: Field = once(1, Rule::Any);
+const DIVERGE: Field = once(1, Rule::Any);
+const SOURCE: Field = once(8, Rule::Any);
+const GAIN: Field = once(6, Rule::Any);
+const SAMPLE_TIME: Field = once(6, Rule::Any);
+const ELEMENTS: Field = until_zero(12);
+const NAME: Field = until_zero(8);
 
-/// Fields that stand together and that one window shows whole.
-pub type Group = &'static [Field];
-
-/// What a value of one kind is made of.
+/// What a value of one kind is made of: fields before the first record, and those of a record.
 pub struct Grammar {
-    /// Stands before the first record.
-    pub once: Group,
-    /// The fixed fields of a record, in two groups if one window can't show them all.
-    pub record: Group,
-    pub record_more: Group,
-    /// The list that closes a record, its 0 included.
-    pub list: Option<Lanes>,
+    pub start: &'static [Field],
+    pub record: &'static [Field],
 }
 
-const fn grammar(once: Group, record: [Group; 2], list: Option<Lanes>) -> Grammar {
-    assert!(bits(once) <= WINDOW && bits(record[0]) <= WINDOW && bits(record[1]) <= WINDOW);
-    Grammar {
-        once,
-        record: record[0],
-        record_more: record[1],
-        list,
+const fn records(record: &'static [Field]) -> Grammar {
+    Grammar { start: &[], record }
+}
+
+static APD: Grammar = records(&[PRESENTATION, SPEAKER_CONFIG, LANGCOD, ELEMENTS]);
+static APN: Grammar = records(&[PRESENTATION, LANGCOD, NAME]);
+static AOD: Grammar = records(&[
+    ELEMENT, CLASS, DYNAMIC, X, Y, Z, SIZE, SIZE_3D, DIVERGE, SOURCE, GAIN,
+]);
+static XYZ: Grammar = Grammar {
+    start: &[SAMPLE_TIME],
+    record: &[ELEMENT, X, Y, Z],
+};
+static AEN: Grammar = records(&[ELEMENT, NAME]);
+static ESN: Grammar = records(&[SUBSTREAM, NAME]);
+
+/// The grammar of a kind.
+pub fn grammar(kind: u32) -> Result<&'static Grammar, Refusal> {
+    match kind {
+        1 => Ok(&APD),
+        2 => Ok(&APN),
+        3 => Ok(&AOD),
+        4 => Ok(&XYZ),
+        5 => Ok(&AEN),
+        6 => Ok(&ESN),
+        _ => Err(Reason::Kind.at(0)),
     }
 }
-
-/// The bits of a group.
-pub const fn bits(group: Group) -> u32 {
-    let mut bits = 0;
-    let mut index = 0;
-    while index < group.len() {
-        bits += group[index].width;
-        index += 1;
-    }
-    bits
-}
-
-/// APD, APN, AOD, XYZ, AEN, ESN: kind k is row k - 1.
-pub const GRAMMARS: [Grammar; 6] = [
-    grammar(
-        &[],
-        [&[PRESENTATION, SPEAKER_CONFIG, LANGCOD], &[]],
-        ELEMENTS,
-    ),
-    grammar(&[], [&[PRESENTATION, LANGCOD], &[]], NAME),
-    grammar(
-        &[],
-        [
-            &[
-                ELEMENT, CLASS, DYNAMIC, COORDINATE, COORDINATE, COORDINATE, SIZE,
-            ],
-            &[SIZE_3D, DIVERGE, SOURCE, GAIN],
-        ],
-        None,
-    ),
-    grammar(
-        &[SAMPLE_TIME],
-        [&[ELEMENT, COORDINATE, COORDINATE, COORDINATE], &[]],
-        None,
-    ),
-    grammar(&[], [&[ELEMENT], &[]], NAME),
-    grammar(&[], [&[SUBSTREAM], &[]], NAME),
-];
 
 impl Field {
     /// Whether the field can hold `number`.
@@ -119,7 +106,6 @@ impl Field {
 }
 
 /// Three groups of five bits, each 1 to 27; only the third may be 0.
-#[inline(always)]
 fn is_langcod(number: u32) -> bool {
     let group = |shift: u32| number >> shift & 31;
     (1..=27).contains(&group(10)) && (1..=27).contains(&group(5)) && group(0) <= 27

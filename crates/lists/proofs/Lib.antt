@@ -7,3 +7,4 @@ pub mod Stands
 pub mod Same
 pub mod Table
 pub mod One
+pub mod Those

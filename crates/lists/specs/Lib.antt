@@ -1,3 +1,4 @@
 pub mod Digits
 pub mod Over
 pub mod Same
+pub mod Those

@@ -1,0 +1,30 @@
+-- Two outcomes of an export that meet its contract on the same input coincide, lent runs included.
+-- Assumes nothing.
+use Prim.Native.Nat.{ℕ}
+use mathlib.Core.Path.{_≡_, sym, _∙_}
+use mathlib.Core.List.{List}
+use lib.ListN.{length}
+use Rattle.lists.proofs.Cases.{one}
+use Rattle.refusals.specs.Outcomes.{Outcome}
+use Rattle.pack.specs.Reading.{checked}
+use Rattle.pmd.specs.Lent.{within}
+use Rattle.pmd.specs.Reading.{reading}
+use Rattle.pmd.specs.Writing.{writing}
+use Rattle.ballastwren.specs.Told.{toldOf, Given}
+use Rattle.ballastwren.specs.declared.Told.{Told}
+
+given-one : {o : Outcome (List ℕ)} {before us vs : List ℕ} {a b : Told} → Given o before a us → Given o before b vs → (a ≡ b) × (us ≡ vs)
+given-one p q = (p .answers ∙ sym (q .answers), p .run ∙ sym (q .run))
+
+pub bw-check-one : (pack : List ℕ) (a b : Told) → a ≡ toldOf (checked pack) → b ≡ toldOf (checked pack) → a ≡ b
+bw-check-one pack a b = one
+
+pub bw-pmd-read-one : (kind : ℕ) (value before us vs : List ℕ) (a b : Told)
+    → Given (within (length before) (reading kind value)) before a us → Given (within (length before) (reading kind value)) before b vs
+    → (a ≡ b) × (us ≡ vs)
+bw-pmd-read-one kind value before us vs a b = given-one
+
+pub bw-pmd-write-one : (kind : ℕ) (numbers before us vs : List ℕ) (a b : Told)
+    → Given (within (length before) (writing kind numbers)) before a us → Given (within (length before) (writing kind numbers)) before b vs
+    → (a ≡ b) × (us ≡ vs)
+bw-pmd-write-one kind numbers before us vs a b = given-one

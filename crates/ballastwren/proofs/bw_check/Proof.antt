@@ -1,0 +1,19 @@
+-- `ballastwren::bw_check` meets its contract: the layer below answers, and its answer is told.
+-- Assumes nothing.
+use mathlib.Core.Path.{ap, _∙_}
+use Rattle.ballastwren.specs.Told.{toldOf}
+use borrow.Author.Needs.{needs}
+use Rattle.ballastwren.proofs.bw_check.Statement.{statement}
+use Rattle.ballastwren.proofs.bw_check.Tie as tie
+
+check-requires : tie.Need-check-requires
+check-requires c κs = search needs
+
+told-answer-requires : tie.Need-told-answer-requires
+told-answer-requires c κs = search needs
+
+returns : tie.Need-returns
+returns c = c .told-answer .ensures ∙ ap toldOf (c .before .check .ensures)
+
+pub bw-check-spec : {M : Type 1} → statement M
+bw-check-spec = tie.close (tie.spec check-requires told-answer-requires returns)

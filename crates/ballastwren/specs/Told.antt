@@ -1,0 +1,19 @@
+-- What C is told: document 01's numbers.
+-- Assumes nothing.
+use mathlib.Core.Path.{_≡_}
+use mathlib.Core.List.{List}
+use Prim.Native.Nat.{ℕ}
+use lib.ListN.{length}
+use Rattle.refusals.specs.Outcomes.{Outcome, answered, told}
+use Rattle.refusals.specs.declared.Answer.{Answer}
+use Rattle.pmd.specs.Lent.{lent}
+use Rattle.ballastwren.specs.declared.Told.{Told}
+
+-- an answer as its two numbers
+abbrev pub toldOf : Answer → Told
+toldOf a = record { number = (told a) .number; value = (told a) .value }
+
+-- the numbers of an outcome that is a list, and what the lent run holds then
+pub record Given (o : Outcome (List ℕ)) (before : List ℕ) (answer : Told) (after : List ℕ) : Type 0 where
+  pub answers : answer ≡ toldOf (answered length o)
+  pub run : after ≡ lent before o

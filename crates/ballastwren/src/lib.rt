@@ -1,0 +1,69 @@
+// What C calls: include/ballastwren.h says it for the C programmer. Slices pass as a pointer and a length, answers as a struct of two numbers.
+// No function here asks anything of its caller, keeps a state or takes memory.
+ghost use mathlib.Core.Path.{_≡_};
+ghost use lib.ListN.{length};
+ghost use Rattle.pack.specs.Reading.{checked};
+ghost use Rattle.pmd.specs.Lent.{within, lent};
+ghost use Rattle.pmd.specs.Reading.{reading};
+ghost use Rattle.pmd.specs.Writing.{writing};
+ghost use Rattle.ballastwren.specs.Told.{toldOf, Given};
+ghost use Rattle.pmd.specs.Gain.{levelOf};
+use refusals::Answer;
+
+// An answer for C: number 0 and a count, or a refusal's number and its place.
+#[repr(C)]
+pub struct Told {
+    pub number: u64,
+    pub value: u64,
+}
+
+fn wide(n: u32) -> u64
+    ensures { λ r. ⌜ r ≡ n ⌝ }
+{
+    n as u64
+}
+
+fn told_answer(a: Answer) -> Told
+    ensures { λ r. ⌜ r ≡ toldOf a ⌝ }
+{
+    match a {
+        Answer::Done(n) => Told {
+            number: 0,
+            value: n as u64,
+        },
+        Answer::Refused { why, place } => {
+            let n = refusals::number(why);
+            Told {
+                number: wide(n),
+                value: place as u64,
+            }
+        }
+    }
+}
+
+// Whether a pack is good: the count of its items and inner payloads, or its refusal.
+#[no_mangle]
+pub extern "C" fn bw_check(pack: &[u8]) -> Told
+    ensures { λ r. ⌜ r ≡ toldOf (checked (now (pack .entry))) ⌝ }
+{
+    let a = checker::check(pack);
+    told_answer(a)
+}
+
+// Reads a PMD value of this kind into `numbers`.
+#[no_mangle]
+pub extern "C" fn bw_pmd_read(kind: u32, value: &[u8], numbers: &mut [u32]) -> Told
+    ensures { λ r. ⌜ Given (within (length (now (numbers .entry))) (reading kind (now (value .entry)))) (now (numbers .entry)) r (now (numbers .exit)) ⌝ }
+{
+    let a = pmd_reading::pmd_read(kind, value, &mut *numbers);
+    told_answer(a)
+}
+
+// Writes `numbers` as a PMD value of this kind into `out`.
+#[no_mangle]
+pub extern "C" fn bw_pmd_write(kind: u32, numbers: &[u32], out: &mut [u8]) -> Told
+    ensures { λ r. ⌜ Given (within (length (now (out .entry))) (writing kind (now (numbers .entry)))) (now (out .entry)) r (now (out .exit)) ⌝ }
+{
+    let a = pmd_writing::pmd_write(kind, numbers, &mut *out);
+    told_answer(a)
+}

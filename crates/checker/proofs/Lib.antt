@@ -1,0 +1,5 @@
+pub mod Outcomes
+pub mod Inside
+pub mod Coming
+mod Counting
+mod Whole

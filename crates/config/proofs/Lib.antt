@@ -1,0 +1,4 @@
+pub mod Names
+pub mod Standing
+pub mod Maps
+pub mod Openings

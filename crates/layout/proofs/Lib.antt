@@ -1,0 +1,15 @@
+pub mod Outcomes
+pub mod Parts
+pub mod Elements
+pub mod Accepts
+pub mod Opens
+pub mod Counts
+pub mod Entries
+pub mod Mapped
+pub mod Items
+pub mod Packs
+pub mod Complete
+pub mod Described
+pub mod Sound
+pub mod Bounds
+pub mod LaidBytes

@@ -1,0 +1,4 @@
+pub mod Payloads
+pub mod Labels
+pub mod Padded
+pub mod Start

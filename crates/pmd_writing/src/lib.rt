@@ -1,0 +1,121 @@
+// Writes lists of numbers as PMD values. A list is judged and weighed in a first pass and put in a second, so that a refusal changes nothing.
+use bits::Pen;
+use pmd::Field;
+use pmd::Named;
+use pmd_rows::Row;
+use refusals::Answer;
+use refusals::Refusal;
+ghost use mathlib.Core.Path.{_≡_};
+ghost use lib.ListN.{length};
+ghost use Rattle.refusals.specs.Outcomes.{answered};
+ghost use Rattle.pmd.specs.Table.{widthOf};
+ghost use Rattle.pmd.specs.Lent.{within, Delivered};
+ghost use Rattle.pmd.specs.Writing.{packing, writing};
+ghost use Rattle.pmd_rows.specs.Rows.{Walkable};
+ghost use Rattle.pmd_writing.specs.ByRow.{writeRow, fits, capped, weight, Roomy};
+
+// Whether a field of w bits takes the number v.
+fn takes(f: Field, w: usize, v: u32) -> bool
+    requires { ⌜ w ≡ widthOf f ⌝ }
+    ensures { λ r. ⌜ r ≡ fits f v ⌝ }
+{
+    v < 1 << w && pmd::holds(pmd::value_of(f, v))
+}
+
+// A count of bits that stops above 4,096 bytes: a list may be longer than any count.
+fn cap(n: usize) -> usize
+    ensures { λ r. ⌜ r ≡ capped n ⌝ }
+{
+    if n <= 32768 {
+        return n;
+    }
+    32769
+}
+
+// How many bits the numbers take as records of this row, or what is wrong with them.
+fn weigh(row: Row, numbers: &[u32]) -> Answer
+    requires { ⌜ Walkable row ⌝ }
+    ensures { λ r. ⌜ r ≡ answered weight (writeRow row (now (numbers .entry))) ⌝ }
+{
+    let mut total: usize = 0;
+    let mut n: usize = 0;
+    let mut i: usize = 0;
+    loop {
+        while i < row.size {
+            let slot = row.slots[i];
+            let f = slot.0;
+            let w = pmd::width(f);
+            let mut more = true;
+            while more {
+                if numbers.len() <= n {
+                    return pmd::refused(Refusal::Bits, n);
+                }
+                let v = numbers[n];
+                if !takes(f, w, v) {
+                    return pmd::refused(Refusal::Field, n);
+                }
+                total = cap(total + w);
+                n += 1;
+                more = pmd::goes_on(f, v);
+            }
+            i += 1;
+        }
+        if numbers.len() <= n {
+            return Answer::Done(total);
+        }
+        i = row.again;
+    }
+}
+
+// Puts numbers that were weighed and have room, and answers how many bytes they are.
+fn put(row: Row, numbers: &[u32], out: &mut [u8]) -> Answer
+    requires { ⌜ Walkable row × Roomy (writeRow row (now numbers)) (length (now out)) ⌝ }
+    ensures { λ r. ⌜ Delivered (packing (writeRow row (now (numbers .entry)))) (now (out .entry)) r (now (out .exit)) ⌝ }
+{
+    let mut pen = Pen {
+        at: 0,
+        count: 0,
+        held: 0,
+    };
+    let mut n: usize = 0;
+    let mut i: usize = 0;
+    loop {
+        while i < row.size {
+            let slot = row.slots[i];
+            let f = slot.0;
+            let w = pmd::width(f);
+            let mut more = true;
+            while more {
+                let v = pmd::number_of(pmd::value_of(f, numbers[n]));
+                pen = bits::put_field(&mut *out, pen, w, v);
+                n += 1;
+                more = pmd::goes_on(f, v);
+            }
+            i += 1;
+        }
+        if numbers.len() <= n {
+            return Answer::Done(bits::close_pen(&mut *out, pen));
+        }
+        i = row.again;
+    }
+}
+
+// Writes the numbers as a value of this kind into `out`, and answers how many bytes it is. Bytes after it do not change; a refusal
+// changes none.
+pub fn pmd_write(kind: u32, numbers: &[u32], out: &mut [u8]) -> Answer
+    ensures { λ r. ⌜ Delivered (within (length (now (out .entry))) (writing kind (now (numbers .entry)))) (now (out .entry)) r (now (out .exit)) ⌝ }
+{
+    let Named::Known(known) = pmd::kind_of(kind) else {
+        return pmd::refused(Refusal::Kind, 0);
+    };
+    let row = pmd_rows::row_of(known);
+    let weighed = weigh(row, numbers);
+    let Answer::Done(total) = weighed else {
+        return weighed;
+    };
+    let size = (total + 7) / 8;
+    if 4096 < size || out.len() < size {
+        return pmd::refused(Refusal::NoRoom, 0);
+    }
+    put(row, numbers, &mut *out)
+}

@@ -1,0 +1,63 @@
+-- The bench examples of document 01 that are marked P, as one table. K is the pack key.
+-- Assumes nothing.
+use mathlib.Core.Path.{_≡_}
+use mathlib.Core.List.{List, [], _∷_, _++_}
+use Prim.Native.Nat.{ℕ}
+use lib.IntN.{pos, negsuc}
+use Rattle.refusals.specs.declared.Refusal.the-variants as R
+use Rattle.refusals.specs.Outcomes.{Outcome, fine, refused, andThen}
+use Rattle.pack.specs.Fixed.{key}
+use Rattle.pack.specs.Said.{number, SaidItem, single, Said}
+use Rattle.pack.specs.Reading.{reading}
+use Rattle.pack.specs.Meaning.{meant}
+use Rattle.pmd.specs.Reading as pmd
+use Rattle.pmd.specs.Gain.{levelOf}
+use Rattle.pmd.specs.declared.Level.{Level}
+use Rattle.pmd.specs.declared.Level.the-variants as G
+
+-- a line: a pack, its key left out, and what comes of it; a PMD value of a kind, and its fields; a gain, and its level
+pub data Line : Type 0 where
+  pack : List ℕ → Outcome Said → Line
+  value : ℕ → List ℕ → Outcome (List ℕ) → Line
+  gain : ℕ → Level → Line
+
+-- what a pack says, or its refusal
+abbrev pub saidBy : List ℕ → Outcome Said
+saidBy s = andThen (reading s) (λ r. fine (meant s r))
+
+abbrev pub Holds : Line → Type 0
+Holds (pack rest expected) = saidBy (key ++ rest) ≡ expected
+Holds (value kind s expected) = pmd.reading kind s ≡ expected
+Holds (gain g expected) = levelOf g ≡ expected
+
+unfoldable pub All : List Line → Type 0
+All [] = Unit
+All (x ∷ r) = Holds x × All r
+
+-- a pack without offset that has these items
+abbrev pub items : List SaidItem → Outcome Said
+items xs = fine (record { offset = 0; items = xs })
+
+-- number 5, value AA
+abbrev pub fiveAA : List SaidItem
+fiveAA = single (record { name = number 5; value = 0xAA ∷ [] }) ∷ []
+
+abbrev pub table : List Line
+table =
+    pack (0x00 ∷ []) (items [])
+    ∷ pack (0x04 ∷ 0x05 ∷ 0x81 ∷ 0x01 ∷ 0xAA ∷ []) (items fiveAA)
+    ∷ pack (0x03 ∷ 0x05 ∷ 0x01 ∷ 0xAA ∷ []) (items fiveAA)
+    ∷ pack (0x80 ∷ []) (refused R.Length 16)
+    ∷ pack (0x02 ∷ 0x05 ∷ 0x01 ∷ []) (refused R.Cut 17)
+    ∷ pack (0x02 ∷ 0x80 ∷ 0x00 ∷ []) (refused R.Tag 17)
+    ∷ pack (0x06 ∷ 0x02 ∷ 0x04 ∷ 0x00 ∷ 0x00 ∷ 0x00 ∷ 0x00 ∷ []) (refused R.Sync 17)
+    ∷ pack (0x06 ∷ 0x05 ∷ 0x00 ∷ 0x01 ∷ 0x02 ∷ 0x00 ∷ 0x00 ∷ []) (refused R.Place 19)
+    ∷ value 4 (0x04 ∷ 0x00 ∷ 0x40 ∷ 0x18 ∷ 0x03 ∷ 0xFF ∷ []) (fine (1 ∷ 1 ∷ 1 ∷ 512 ∷ 1023 ∷ []))
+    ∷ value 6 (0x14 ∷ 0x10 ∷ 0x00 ∷ []) (fine (1 ∷ 65 ∷ 0 ∷ []))
+    ∷ value 6 (0x14 ∷ 0x10 ∷ 0x01 ∷ []) (refused R.Pad 20)
+    ∷ value 1 (0x00 ∷ 0x80 ∷ 0xAE ∷ 0x00 ∷ 0x00 ∷ 0x00 ∷ []) (fine (1 ∷ 0 ∷ 5568 ∷ 0 ∷ []))
+    ∷ gain 0 G.Muted
+    ∷ gain 1 (G.HalfDecibels (negsuc 49))
+    ∷ gain 51 (G.HalfDecibels (pos 0))
+    ∷ gain 63 (G.HalfDecibels (pos 12))
+    ∷ []

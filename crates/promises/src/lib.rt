@@ -1,0 +1,1 @@
+// What Ballastwren promises, in one place. This crate has theorems; no code.
