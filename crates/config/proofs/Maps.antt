@@ -183,13 +183,16 @@ pub record Sofar (c : List ℕ) (place from k : ℕ) (tags places known marks : 
   pub enough : length c ≤ at + fuel
   pub same : mappingsFrom fuel c place ms at ≡ mappingsFrom k c place [] from
 
+pub tables-none : {tags places known : List ℕ} → Empty tags places known → Tables [] tags places known
+tables-none e = record { tagged = e .tagged; placed = e .placed; index = subst (Knows []) (sym (e .index)) knows-none; few = omega arith }
+
 pub sofar-begins : (c : List ℕ) (place from k : ℕ) {tags places known : List ℕ} → Empty tags places known → length c ≤ from + k
     → Sofar c place from k tags places known (replicate 251 0) 0 from
 sofar-begins c place from k {tags} {places} {known} e h = record {
   ms = [];
   fuel = k;
   long = refl;
-  tables = record { tagged = e .tagged; placed = e .placed; index = subst (Knows []) (sym (e .index)) knows-none; few = omega arith };
+  tables = tables-none e;
   stand = refl;
   inside = λ i b. absurd (omega arith);
   marked = marked-none;

@@ -1,4 +1,4 @@
--- The two round trips over bits, for every table of records. Nothing here looks into a field: `width`, `takes` and `after` are all that is used.
+-- The two round trips over bits, for every table of records. Nothing here looks into a piece: `width`, `takes` and `after` are all that is used.
 -- Assumes nothing.
 use Prim.Native.Nat.{ℕ, zero, suc, _+_, _-_, _<_, _≤_}
 use mathlib.Core.Path.{_≡_, refl, sym, ap, subst, _∙_}
@@ -15,7 +15,7 @@ use Rattle.lists.proofs.Digits.{length-digits, digits-below, digits-number, num
 use Rattle.lists.proofs.Below.{below-append, below-take, below-drop}
 use Rattle.refusals.specs.Outcomes.{fine, refused, andThen}
 use Rattle.refusals.specs.declared.Refusal.the-variants as R
-use Rattle.pmd.specs.declared.Field.{Field}
+use Rattle.pmd.specs.declared.Piece.{Piece}
 use Rattle.pmd.specs.Records.{width, takes, after, closed, opened}
 use Rattle.pmd.specs.Lent.{prepend}
 use Rattle.pmd.specs.Reading.{ended, padding, readFrom}
@@ -25,19 +25,19 @@ use Rattle.pmd.proofs.Packed.{all-zeros, number-zeros}
 use Rattle.pmd.proofs.Records.{takes-lt, takes-some, least, least-after, closed-least, opened-least, closed-opens}
 
 -- one number more is written
-write-on : (again left : List Field) (v : ℕ) (vs : List ℕ) (i : ℕ) (r : List ℕ) → takes (opened again left) v ≡ true
+write-on : (again left : List Piece) (v : ℕ) (vs : List ℕ) (i : ℕ) (r : List ℕ) → takes (opened again left) v ≡ true
     → writeFrom again (after (opened again left) v) vs (i + 1) ≡ fine r → writeFrom again left (v ∷ vs) i ≡ fine (digits 2 (width (opened again left)) v ++ r)
 unfolding writeFrom andThen
 write-on again left v vs i r t e = simp (t, e)
 
 -- and what was written of a list is its first number, which was taken, and the others
-record Step (again left : List Field) (v : ℕ) (vs : List ℕ) (i : ℕ) (p : List ℕ) : Type 0 where
+record Step (again left : List Piece) (v : ℕ) (vs : List ℕ) (i : ℕ) (p : List ℕ) : Type 0 where
   taken : takes (opened again left) v ≡ true
   rest : List ℕ
   from : writeFrom again (after (opened again left) v) vs (i + 1) ≡ fine rest
   whole : p ≡ digits 2 (width (opened again left)) v ++ rest
 
-write-step : (again left : List Field) (v : ℕ) (vs : List ℕ) (i : ℕ) (p : List ℕ) → writeFrom again left (v ∷ vs) i ≡ fine p → Step again left v vs i p
+write-step : (again left : List Piece) (v : ℕ) (vs : List ℕ) (i : ℕ) (p : List ℕ) → writeFrom again left (v ∷ vs) i ≡ fine p → Step again left v vs i p
 unfolding writeFrom
 write-step again left v vs i p e =
     split (takes (opened again left) v)
@@ -46,7 +46,7 @@ write-step again left v vs i p e =
     record { taken = t; rest = o .0; from = o .1; whole = o .2 })
     (λ t. let q : refused R.Field i ≡ fine p = simp t at e in absurd-eq (cc))
 
-write-end : (again left : List Field) (i : ℕ) (p : List ℕ) → writeFrom again left [] i ≡ fine p → (closed left ≡ true) × ([] ≡ p)
+write-end : (again left : List Piece) (i : ℕ) (p : List ℕ) → writeFrom again left [] i ≡ fine p → (closed left ≡ true) × ([] ≡ p)
 unfolding writeFrom
 write-end again left i p e =
     split (closed left)
@@ -54,7 +54,7 @@ write-end again left i p e =
     (λ c. let q : refused R.Bits i ≡ fine p = simp c at e in absurd-eq (cc))
 
 -- What an accepted run of bits is: the bits that its fields are written as, and then fewer than 8 zeros.
-pub record Written (again left : List Field) (bs xs : List ℕ) (i : ℕ) : Type 0 where
+pub record Written (again left : List Piece) (bs xs : List ℕ) (i : ℕ) : Type 0 where
   pub run : List ℕ
   pub pad : ℕ
   pub whole : bs ≡ run ++ replicate pad 0
@@ -65,7 +65,7 @@ and-both : (a b : Bool) → a && b ≡ true → (a ≡ true) × (b ≡ true)
 and-both true b e = (refl, e)
 and-both false b e = absurd-eq (cc)
 
-padding-written : (again left : List Field) (bs xs : List ℕ) (at i : ℕ) → Below 2 bs → ended left bs ≡ true → padding bs at ≡ fine xs → Written again left bs xs i
+padding-written : (again left : List Piece) (bs xs : List ℕ) (at i : ℕ) → Below 2 bs → ended left bs ≡ true → padding bs at ≡ fine xs → Written again left bs xs i
 unfolding padding writeFrom
 padding-written again left bs xs at i b s e =
     let c = and-both (closed left) (ltb (length bs) 8) s in
@@ -83,7 +83,7 @@ padding-written again left bs xs at i b s e =
     (λ z. let q : refused R.Pad at ≡ fine xs = simp z at e in absurd-eq (cc))
 
 -- what was read is written as it stood
-pub read-write : (k : ℕ) (again left : List Field) (bs : List ℕ) (at i : ℕ) (xs : List ℕ) → Below 2 bs → readFrom k again left bs at ≡ fine xs
+pub read-write : (k : ℕ) (again left : List Piece) (bs : List ℕ) (at i : ℕ) (xs : List ℕ) → Below 2 bs → readFrom k again left bs at ≡ fine xs
     → Written again left bs xs i
 unfolding readFrom
 read-write zero again left bs at i xs b e = absurd-eq (cc)
@@ -99,7 +99,7 @@ read-write (suc k) again left bs at i xs b e =
     more t (ltb-false _ _ l) (o .0) (o .2) (read-write k again (after next v) (drop w bs) (at + w) (i + 1) (o .0) (below-drop 2 w bs b) (o .1)))
     (λ t. let q : refused R.Field at ≡ fine xs = simp (s, l, t) at e in absurd-eq (cc))))
   where
-    next : List Field
+    next : List Piece
     next = opened again left
 
     w : ℕ
@@ -121,7 +121,7 @@ read-write (suc k) again left bs at i xs b e =
     }
 
 -- what is written is bits, as many as the numbers at least
-pub write-below : (again left : List Field) (xs : List ℕ) (i : ℕ) (p : List ℕ) → writeFrom again left xs i ≡ fine p → Below 2 p × (length xs ≤ length p)
+pub write-below : (again left : List Piece) (xs : List ℕ) (i : ℕ) (p : List ℕ) → writeFrom again left xs i ≡ fine p → Below 2 p × (length xs ≤ length p)
 write-below again left [] i p e =
     let q = write-end again left i p e .1 in
     (subst (λ (l : List ℕ). Below 2 l) q (λ k. lit< tt), omega arith)
@@ -135,7 +135,7 @@ write-below again left (v ∷ vs) i p e =
     )
 
 -- and as many as the record has at least
-write-least : (again left : List Field) (xs : List ℕ) (i : ℕ) (p : List ℕ) → writeFrom again left xs i ≡ fine p
+write-least : (again left : List Piece) (xs : List ℕ) (i : ℕ) (p : List ℕ) → writeFrom again left xs i ≡ fine p
     → (0 < length xs → least (opened again left) ≤ length p) × (least left ≤ length p)
 write-least again left [] i p e = (λ l. absurd (omega arith), omega (arith, closed-least left (write-end again left i p e .0)))
 write-least again left (v ∷ vs) i p e =
@@ -146,24 +146,24 @@ write-least again left (v ∷ vs) i p e =
     let q : least next ≤ length p = omega (arith, ap length (s .whole), length-append f (s .rest), length-digits 2 (width next) v, least-after next v) in
     (λ l. q, omega (arith, opened-least again left))
 
-read-padding : (k : ℕ) (again left : List Field) (at m : ℕ) → closed left ≡ true → m < 8 → readFrom (suc k) again left (replicate m 0) at ≡ fine []
+read-padding : (k : ℕ) (again left : List Piece) (at m : ℕ) → closed left ≡ true → m < 8 → readFrom (suc k) again left (replicate m 0) at ≡ fine []
 unfolding readFrom padding
 read-padding k again left at m c h =
     simp (c, lt-ltb _ _ (let q : length {A = ℕ} (replicate m 0) < 8 = omega (arith, length-replicate {A = ℕ} m 0) in q), eq-eqb _ _ (number-zeros m))
 
 -- one field more is read
-read-on : (k : ℕ) (again left : List Field) (bs : List ℕ) (at v : ℕ) (vs : List ℕ) → ended left bs ≡ false → width (opened again left) ≤ length bs
+read-on : (k : ℕ) (again left : List Piece) (bs : List ℕ) (at v : ℕ) (vs : List ℕ) → ended left bs ≡ false → width (opened again left) ≤ length bs
     → number 2 (take (width (opened again left)) bs) ≡ v → takes (opened again left) v ≡ true
     → readFrom k again (after (opened again left) v) (drop (width (opened again left)) bs) (at + width (opened again left)) ≡ fine vs
     → readFrom (suc k) again left bs at ≡ fine (v ∷ vs)
 unfolding readFrom andThen
 read-on k again left bs at v vs s l x t e = simp (s, le-ltb _ _ l, x, t, e)
 
-not-ended : (left : List Field) (bs : List ℕ) → (closed left ≡ true → 8 ≤ length bs) → ended left bs ≡ false
+not-ended : (left : List Piece) (bs : List ℕ) → (closed left ≡ true → 8 ≤ length bs) → ended left bs ≡ false
 not-ended left bs h = split (closed left) (λ c. simp (c, le-ltb _ _ (h c))) (λ c. simp c)
 
 -- what was written is read, before fewer than 8 zeros
-pub write-read : (k : ℕ) (again left : List Field) (xs : List ℕ) (at i : ℕ) (p : List ℕ) (m : ℕ) → length xs < k → 8 ≤ least again → m < 8
+pub write-read : (k : ℕ) (again left : List Piece) (xs : List ℕ) (at i : ℕ) (p : List ℕ) (m : ℕ) → length xs < k → 8 ≤ least again → m < 8
     → writeFrom again left xs i ≡ fine p → readFrom k again left (p ++ replicate m 0) at ≡ fine xs
 write-read zero again left xs at i p m l a h e = absurd (omega arith)
 write-read (suc k) again left [] at i p m l a h e =

@@ -12,13 +12,13 @@ use Rattle.refusals.specs.declared.Refusal.the-variants as R
 use Rattle.pmd.specs.declared.Kind.{Kind}
 use Rattle.pmd.specs.declared.Named.{Named}
 use Rattle.pmd.specs.declared.Named.the-variants as N
-use Rattle.pmd.specs.declared.Field.{Field}
+use Rattle.pmd.specs.declared.Piece.{Piece}
 use Rattle.pmd.specs.Table.{kindOf, recordOf}
 use Rattle.pmd.specs.Records.{width, takes, after, closed, opened, firstOf}
 use Rattle.pmd.specs.Lent.{prepend}
 
 -- a record is closed and fewer than 8 bits are left: no other follows,
-abbrev pub ended : List Field → List ℕ → Bool
+abbrev pub ended : List Piece → List ℕ → Bool
 ended left bs = closed left && ltb (length bs) 8
 
 -- and those bits must be 0
@@ -27,7 +27,7 @@ padding bs at = cond (eqb (number 2 bs) 0) (fine []) (refused R.Pad at)
 
 -- The fields of the bits bs, which stand at bit `at` of the value, when `left` is left of the record and `again` is every further one.
 -- Each field has a bit at least, so no more steps are needed than there are bits.
-unfoldable pub readFrom : ℕ → List Field → List Field → List ℕ → ℕ → Outcome (List ℕ)
+unfoldable pub readFrom : ℕ → List Piece → List Piece → List ℕ → ℕ → Outcome (List ℕ)
 readFrom zero again left bs at = refused R.Bits at
 readFrom (suc steps) again left bs at =
     let next = opened again left in

@@ -10,14 +10,14 @@ use Rattle.refusals.specs.declared.Refusal.the-variants as R
 use Rattle.pmd.specs.declared.Kind.{Kind}
 use Rattle.pmd.specs.declared.Named.{Named}
 use Rattle.pmd.specs.declared.Named.the-variants as N
-use Rattle.pmd.specs.declared.Field.{Field}
+use Rattle.pmd.specs.declared.Piece.{Piece}
 use Rattle.pmd.specs.Table.{kindOf, recordOf}
 use Rattle.pmd.specs.Records.{width, takes, after, closed, opened, firstOf}
 use Rattle.pmd.specs.Lent.{prepend, within}
 
 -- The bits of the numbers vs, of which the first is number i of the list, when `left` is left of the record and `again` is every further
 -- one. A list may end where a record does.
-unfoldable pub writeFrom : List Field → List Field → List ℕ → ℕ → Outcome (List ℕ)
+unfoldable pub writeFrom : List Piece → List Piece → List ℕ → ℕ → Outcome (List ℕ)
 writeFrom again left [] i = cond (closed left) (fine []) (refused R.Bits i)
 writeFrom again left (v ∷ vs) i =
     let next = opened again left in

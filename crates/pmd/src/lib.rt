@@ -5,7 +5,7 @@ ghost use mathlib.Core.Path.{_≡_};
 ghost use Prim.Native.Nat.{_<_, _^_};
 ghost use Rattle.refusals.specs.declared.Answer.the-variants as Answers;
 ghost use Rattle.pmd.specs.declared.Field.the-variants as F;
-ghost use Rattle.pmd.specs.Table.{widthOf, repeats, valueOf, asNumber, isSpeakerConfig, isLetter, isLangcod, mayHold, kindOf};
+ghost use Rattle.pmd.specs.Table.{widthOf, valueOf, asNumber, isSpeakerConfig, isLetter, isLangcod, mayHold, kindOf};
 ghost use Rattle.pmd.specs.Records.{goesOn};
 ghost use Rattle.pmd.specs.Gain.{levelOf};
 
@@ -29,8 +29,8 @@ pub enum Field {
     SpeakerConfig,
     Langcod,
     Element,
-    // Elements until one is 0.
-    Elements,
+    // An element of a list, or the 0 that closes the list.
+    Listed,
     Class,
     Dynamic,
     // x, y or z.
@@ -42,63 +42,8 @@ pub enum Field {
     Gain,
     SampleTime,
     Substream,
-    // Bytes until one is 0.
-    Name,
-}
-
-// How many bits a field has.
-pub fn width(f: Field) -> usize
-    ensures { λ r. ⌜ r ≡ widthOf f ⌝ }
-{
-    match f {
-        Field::Presentation => 9,
-        Field::SpeakerConfig => 5,
-        Field::Langcod => 15,
-        Field::Element => 12,
-        Field::Elements => 12,
-        Field::Class => 4,
-        Field::Dynamic => 1,
-        Field::Coordinate => 10,
-        Field::Size => 5,
-        Field::Size3d => 1,
-        Field::Diverge => 1,
-        Field::Source => 8,
-        Field::Gain => 6,
-        Field::SampleTime => 6,
-        Field::Substream => 4,
-        Field::Name => 8,
-    }
-}
-
-// Whether a field is repeated until it is 0.
-fn repeated(f: Field) -> bool
-    ensures { λ r. ⌜ r ≡ repeats f ⌝ }
-{
-    match f {
-        Field::Presentation => false,
-        Field::SpeakerConfig => false,
-        Field::Langcod => false,
-        Field::Element => false,
-        Field::Elements => true,
-        Field::Class => false,
-        Field::Dynamic => false,
-        Field::Coordinate => false,
-        Field::Size => false,
-        Field::Size3d => false,
-        Field::Diverge => false,
-        Field::Source => false,
-        Field::Gain => false,
-        Field::SampleTime => false,
-        Field::Substream => false,
-        Field::Name => true,
-    }
-}
-
-// Whether the same field follows once more after the number v.
-pub fn goes_on(f: Field, v: u32) -> bool
-    ensures { λ r. ⌜ r ≡ goesOn f v ⌝ }
-{
-    repeated(f) && v != 0
+    // A byte of a name, or the 0 that closes it.
+    Byte,
 }
 
 // What a field's number stands for. Every number passes through a value between the bits and the list, both ways.
@@ -129,7 +74,7 @@ pub fn value_of(f: Field, v: u32) -> Value
         Field::Langcod => Value::Langcod(v),
         Field::Class => Value::Class(v),
         Field::Coordinate => Value::Coordinate(v),
-        Field::Elements => listed(v),
+        Field::Listed => listed(v),
         Field::Dynamic => Value::Plain(v),
         Field::Size => Value::Plain(v),
         Field::Size3d => Value::Plain(v),
@@ -137,14 +82,14 @@ pub fn value_of(f: Field, v: u32) -> Value
         Field::Source => Value::Plain(v),
         Field::Gain => Value::Plain(v),
         Field::SampleTime => Value::Plain(v),
-        Field::Name => Value::Plain(v),
+        Field::Byte => Value::Plain(v),
     }
 }
 
 // An element of a list, or the 0 that closes it.
 fn listed(v: u32) -> Value
     requires { ⌜ v < 4096 ⌝ }
-    ensures { λ r. ⌜ r ≡ valueOf F.Elements v ⌝ }
+    ensures { λ r. ⌜ r ≡ valueOf F.Listed v ⌝ }
 {
     if v == 0 {
         Value::Terminator
@@ -205,6 +150,16 @@ pub fn holds(x: Value) -> bool
         Value::Terminator => true,
         Value::Plain(_) => true,
     }
+}
+
+// A piece of a record: a field, how many bits it has, and whether it stands once or is repeated until it is 0.
+pub struct Piece(pub Field, pub u8, pub bool);
+
+// Whether a piece has another field after the number v.
+pub fn goes_on(until: bool, v: u32) -> bool
+    ensures { λ r. ⌜ r ≡ goesOn until v ⌝ }
+{
+    until && v != 0
 }
 
 // The kinds of PMD values that are read and written.

@@ -15,7 +15,7 @@ use Rattle.refusals.specs.declared.Answer.the-variants as A
 use Rattle.pmd.specs.declared.Kind.{Kind}
 use Rattle.pmd.specs.declared.Named.{Named}
 use Rattle.pmd.specs.declared.Named.the-variants as N
-use Rattle.pmd.specs.declared.Field.{Field}
+use Rattle.pmd.specs.declared.Piece.{Piece}
 use Rattle.pmd.specs.Table.{kindOf}
 use Rattle.pmd.specs.Lent.{within, lent, Delivered}
 use Rattle.pmd.specs.Reading.{readFrom, readAs, reading}
@@ -50,7 +50,7 @@ module _ (kind : ℕ) (s before : List ℕ) where
         unfolding readAs
         by-row =
             as-named (N.Known known) k
-            ∙ simp (le-ltb _ _ small) (sym (ap₂ (λ (again first : List Field). readFrom (suc (8 * length s)) again first (bits s) 0) (holds .again) (holds .first)))
+            ∙ simp (le-ltb _ _ small) (sym (ap₂ (λ (again first : List Piece). readFrom (suc (8 * length s)) again first (bits s) 0) (holds .again) (holds .first)))
 
         pub read-refused : {why : Refusal} {place : ℕ} → counted ≡ A.Refused why place → Delivered outcome before counted before
         read-refused h = refuses (by-row ∙ refused-was length c h) h

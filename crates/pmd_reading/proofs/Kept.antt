@@ -17,18 +17,16 @@ use Rattle.bits.proofs.Fields.{field-lt}
 use Rattle.refusals.specs.Outcomes.{Outcome, fine, refused, andThen}
 use Rattle.refusals.specs.declared.Refusal.{Refusal}
 use Rattle.refusals.specs.declared.Refusal.the-variants as R
-use Rattle.pmd.specs.declared.Field.{Field}
-use Rattle.pmd.specs.declared.Field.the-variants as F
+use Rattle.pmd.specs.declared.Piece.{Piece}
 use Rattle.pmd.specs.Table.{widthOf, valueOf, mayHold}
 use Rattle.pmd.specs.Records.{goesOn, onward, width, takes, after, closed, opened}
 use Rattle.pmd.specs.Lent.{prepend}
 use Rattle.pmd.specs.Reading.{padding, readFrom}
 use Rattle.pmd.proofs.Fields.{width-some}
 use Rattle.pmd.proofs.Outcomes.{prepend-none, prepend-prepend, prepend-fine}
-use Rattle.pmd_rows.specs.declared.Slot.{Slot}
 use Rattle.pmd_rows.specs.declared.Row.{Row}
 use Rattle.pmd_rows.specs.Rows.{leftOf, Walkable}
-use Rattle.pmd_rows.proofs.Walk.{left-next}
+use Rattle.pmd_rows.proofs.Walk.{blank, left-next}
 use Rattle.pmd_reading.specs.ByRow.{readRow, Roomy}
 
 -- how many bits are left
@@ -36,31 +34,31 @@ length-left : (s : List ℕ) (at : ℕ) → length (drop at (bits s)) ≡ 8 * le
 length-left s at = length-drop at (bits s) ∙ ap (λ (n : ℕ). n - at) (length-bits s)
 
 -- the reader at a piece
-module _ (steps : ℕ) (again : List Field) (f : Field) (left : List Field) (s : List ℕ) (at : ℕ) where
+module _ (steps : ℕ) (again : List Piece) (p : Piece) (left : List Piece) (s : List ℕ) (at : ℕ) where
   abbrev w : ℕ
-  w = widthOf f
+  w = widthOf (p .0)
 
   abbrev v : ℕ
   v = fieldAt s at w
 
   abbrev here : Outcome (List ℕ)
-  here = readFrom (suc steps) again (f ∷ left) (drop at (bits s)) at
+  here = readFrom (suc steps) again (p ∷ left) (drop at (bits s)) at
 
   read-short : 8 * length s - at < w → here ≡ refused R.Bits at
   unfolding readFrom closed opened width
   read-short h = simp (length-left s at, lt-ltb _ _ h)
 
-  read-bad : w ≤ 8 * length s - at → mayHold (valueOf f v) ≡ false → here ≡ refused R.Field at
+  read-bad : w ≤ 8 * length s - at → mayHold (valueOf (p .0) v) ≡ false → here ≡ refused R.Field at
   unfolding readFrom closed opened width takes fieldAt
   read-bad h e = simp (length-left s at, le-ltb _ _ h, lt-ltb _ _ (field-lt s at w), e)
 
-  read-on : w ≤ 8 * length s - at → mayHold (valueOf f v) ≡ true
-      → here ≡ prepend (v ∷ []) (readFrom steps again (onward f left (goesOn f v)) (drop (at + w) (bits s)) (at + w))
+  read-on : w ≤ 8 * length s - at → mayHold (valueOf (p .0) v) ≡ true
+      → here ≡ prepend (v ∷ []) (readFrom steps again (onward p left (goesOn (p .2) v)) (drop (at + w) (bits s)) (at + w))
   unfolding readFrom closed opened width takes after fieldAt
   read-on h e = simp (length-left s at, le-ltb _ _ h, lt-ltb _ _ (field-lt s at w), e, drop-drop)
 
 -- the reader where a record is closed
-module _ (steps : ℕ) (again : List Field) (s : List ℕ) (at : ℕ) where
+module _ (steps : ℕ) (again : List Piece) (s : List ℕ) (at : ℕ) where
   read-over : 8 * length s - at < 8
       → readFrom (suc steps) again [] (drop at (bits s)) at ≡ cond (eqb (fieldAt s at (8 * length s - at)) 0) (fine []) (refused R.Pad at)
   unfolding readFrom closed padding fieldAt
@@ -69,15 +67,15 @@ module _ (steps : ℕ) (again : List Field) (s : List ℕ) (at : ℕ) where
       let all : take (8 * length s - at) bs ≡ bs = take-all (8 * length s - at) bs (omega (arith, length-left s at)) in
       simp (length-left s at, lt-ltb _ _ h, all)
 
-  read-again : (f : Field) (left : List Field) → again ≡ f ∷ left → 8 ≤ 8 * length s - at
+  read-again : (p : Piece) (left : List Piece) → again ≡ p ∷ left → 8 ≤ 8 * length s - at
       → readFrom (suc steps) again [] (drop at (bits s)) at ≡ readFrom (suc steps) again again (drop at (bits s)) at
   unfolding readFrom closed opened
-  read-again f left e h =
-      subst (λ (g : List Field). readFrom (suc steps) g [] (drop at (bits s)) at ≡ readFrom (suc steps) g g (drop at (bits s)) at) (sym e)
+  read-again p left e h =
+      subst (λ (g : List Piece). readFrom (suc steps) g [] (drop at (bits s)) at ≡ readFrom (suc steps) g g (drop at (bits s)) at) (sym e)
       (simp (length-left s at, le-ltb _ _ h))
 
 -- the numbers xs, n of them, were found before bit `at`, and this is left of the record
-pub record Kept (row : Row) (s xs : List ℕ) (at n : ℕ) (left : List Field) : Type 0 where
+pub record Kept (row : Row) (s xs : List ℕ) (at n : ℕ) (left : List Piece) : Type 0 where
   pub steps : ℕ
   pub long : length xs ≡ n
   pub few : n ≤ at
@@ -90,31 +88,31 @@ kept-begins row s = record
     { steps = 8 * length s; long = refl; few = omega arith; inside = omega arith; enough = omega arith; same = prepend-none _ }
 
 -- at a piece, of which the field has w bits
-module _ {row : Row} {s xs : List ℕ} {at n : ℕ} {f : Field} {left : List Field} (k : Kept row s xs at n (f ∷ left)) (w : ℕ) (e : w ≡ widthOf f) where
+module _ {row : Row} {s xs : List ℕ} {at n : ℕ} {p : Piece} {left : List Piece} (k : Kept row s xs at n (p ∷ left)) (w : ℕ) (e : w ≡ widthOf (p .0)) where
   pub kept-short : 8 * length s - at < w → readRow row s ≡ refused R.Bits at
   unfolding andThen
   kept-short h =
-      sym (k .same) ∙ ap (prepend xs) (read-short (k .steps) (leftOf row (row .again)) f left s at (subst (λ (m : ℕ). 8 * length s - at < m) e h))
+      sym (k .same) ∙ ap (prepend xs) (read-short (k .steps) (leftOf row (row .again)) p left s at (subst (λ (m : ℕ). 8 * length s - at < m) e h))
 
   -- and holds v
   module _ (h : w ≤ 8 * length s - at) (v : ℕ) (ev : v ≡ fieldAt s at w) where
-    there : widthOf f ≤ 8 * length s - at
+    there : widthOf (p .0) ≤ 8 * length s - at
     there = subst (λ (m : ℕ). m ≤ 8 * length s - at) e h
 
-    value : v ≡ fieldAt s at (widthOf f)
+    value : v ≡ fieldAt s at (widthOf (p .0))
     value = ev ∙ ap (fieldAt s at) e
 
-    pub kept-bad : mayHold (valueOf f v) ≡ false → readRow row s ≡ refused R.Field at
+    pub kept-bad : mayHold (valueOf (p .0) v) ≡ false → readRow row s ≡ refused R.Field at
     unfolding andThen
     kept-bad b =
         sym (k .same)
-        ∙ ap (prepend xs) (read-bad (k .steps) (leftOf row (row .again)) f left s at there (ap (λ (x : ℕ). mayHold (valueOf f x)) (sym value) ∙ b))
+        ∙ ap (prepend xs) (read-bad (k .steps) (leftOf row (row .again)) p left s at there (ap (λ (x : ℕ). mayHold (valueOf (p .0) x)) (sym value) ∙ b))
 
-    pub kept-on : mayHold (valueOf f v) ≡ true → {more : Bool} → more ≡ goesOn f v → Kept row s (xs ++ (v ∷ [])) (at + w) (n + 1) (onward f left more)
+    pub kept-on : mayHold (valueOf (p .0) v) ≡ true → {more : Bool} → more ≡ goesOn (p .2) v → Kept row s (xs ++ (v ∷ [])) (at + w) (n + 1) (onward p left more)
     kept-on b {more} em =
-        let some : 1 ≤ w = subst (λ (m : ℕ). 1 ≤ m) (sym e) (width-some f .0) in
+        let some : 1 ≤ w = subst (λ (m : ℕ). 1 ≤ m) (sym e) (width-some (p .0) .0) in
         let again = leftOf row (row .again) in
-        let on = read-on (k .steps) again f left s at there (ap (λ (x : ℕ). mayHold (valueOf f x)) (sym value) ∙ b) in
+        let on = read-on (k .steps) again p left s at there (ap (λ (x : ℕ). mayHold (valueOf (p .0) x)) (sym value) ∙ b) in
         record {
           steps = k .steps - 1;
           long = length-append xs (v ∷ []) ∙ ap (λ (m : ℕ). m + 1) (k .long);
@@ -123,9 +121,9 @@ module _ {row : Row} {s xs : List ℕ} {at n : ℕ} {f : Field} {left : List Fie
           enough = omega (arith, k .enough);
           same =
               prepend-prepend xs (v ∷ []) _
-              ∙ ap₂ (λ (m : ℕ) (b : Bool). prepend xs (prepend (v ∷ []) (readFrom m again (onward f left b) (drop (at + w) (bits s)) (at + w))))
+              ∙ ap₂ (λ (m : ℕ) (b : Bool). prepend xs (prepend (v ∷ []) (readFrom m again (onward p left b) (drop (at + w) (bits s)) (at + w))))
               (let q : suc (k .steps - 1) ≡ k .steps = omega (arith, k .enough, k .inside) in q) em
-              ∙ ap₂ (λ (x m : ℕ). prepend xs (prepend (x ∷ []) (readFrom (k .steps) again (onward f left (goesOn f x)) (drop (at + m) (bits s)) (at + m)))) value e
+              ∙ ap₂ (λ (x m : ℕ). prepend xs (prepend (x ∷ []) (readFrom (k .steps) again (onward p left (goesOn (p .2) x)) (drop (at + m) (bits s)) (at + m)))) value e
               ∙ sym (ap (prepend xs) on) ∙ k .same;
         }
 
@@ -153,14 +151,13 @@ module _ {row : Row} {s xs : List ℕ} {at n : ℕ} (k : Kept row s xs at n []) 
     inside = k .inside;
     enough = k .enough;
     same =
-        let d : Slot = record { 0 = F.Presentation } in
         ap (prepend xs)
-        (sym (read-again (k .steps) (leftOf row (row .again)) s at (getD (row .slots) (row .again) d .0) (leftOf row (row .again + 1)) (left-next walkable (row .again) d (walkable .begins)) h))
+        (sym (read-again (k .steps) (leftOf row (row .again)) s at (getD (row .pieces) (row .again) blank) (leftOf row (row .again + 1)) (left-next walkable (row .again) (walkable .begins)) h))
         ∙ k .same;
   }
 
 -- what a loop knows: some numbers were found, and this of them
-pub record Found (P : List ℕ → Type 0) (row : Row) (s : List ℕ) (at n : ℕ) (left : List Field) : Type 0 where
+pub record Found (P : List ℕ → Type 0) (row : Row) (s : List ℕ) (at n : ℕ) (left : List Piece) : Type 0 where
   pub xs : List ℕ
   pub also : P xs
   pub kept : Kept row s xs at n left
@@ -170,14 +167,14 @@ never : {A : Type 0} {o : Outcome (List ℕ)} {room : ℕ} {why : Refusal} {plac
 never {o = o} {why = why} {place} r e = let q : refused why place ≡ fine (r .list) = sym e ∙ r .is in absurd-eq (cc)
 
 module _ {row : Row} {s xs : List ℕ} {at n room : ℕ} (roomy : Roomy (readRow row s) room) where
-  module _ {f : Field} {left : List Field} (k : Kept row s xs at n (f ∷ left)) (w : ℕ) (e : w ≡ widthOf f) where
+  module _ {p : Piece} {left : List Piece} (k : Kept row s xs at n (p ∷ left)) (w : ℕ) (e : w ≡ widthOf (p .0)) where
     pub roomy-there : w ≤ 8 * length s - at
     roomy-there = split (ltb (8 * length s - at) w) (λ l. never roomy (kept-short k w e (ltb-true _ _ l))) (λ l. ltb-false _ _ l)
 
-    pub roomy-good : (v : ℕ) → v ≡ fieldAt s at w → mayHold (valueOf f v) ≡ true
-    roomy-good v ev = split (mayHold (valueOf f v)) (λ b. b) (λ b. never roomy (kept-bad k w e roomy-there v ev b))
+    pub roomy-good : (v : ℕ) → v ≡ fieldAt s at w → mayHold (valueOf (p .0) v) ≡ true
+    roomy-good v ev = split (mayHold (valueOf (p .0) v)) (λ b. b) (λ b. never roomy (kept-bad k w e roomy-there v ev b))
 
-  pub roomy-for : {left : List Field} → Kept row s xs at n left → n ≤ room
+  pub roomy-for : {left : List Piece} → Kept row s xs at n left → n ≤ room
   roomy-for k =
       let o = prepend-fine xs _ (roomy .list) (k .same ∙ roomy .is) in
       omega (arith, k .long, ap length (o .2), length-append xs (o .0), roomy .fits)

@@ -22,9 +22,9 @@ fn count(row: Row, s: &[u8]) -> Answer
     let mut i: usize = 0;
     loop {
         while i < row.size {
-            let slot = row.slots[i];
-            let f = slot.0;
-            let w = pmd::width(f);
+            let piece = row.pieces[i];
+            let f = piece.0;
+            let w = piece.1 as usize;
             let mut more = true;
             while more {
                 if 8 * s.len() - at < w {
@@ -36,7 +36,7 @@ fn count(row: Row, s: &[u8]) -> Answer
                 }
                 at += w;
                 n += 1;
-                more = pmd::goes_on(f, v);
+                more = pmd::goes_on(piece.2, v);
             }
             i += 1;
         }
@@ -51,7 +51,7 @@ fn count(row: Row, s: &[u8]) -> Answer
     }
 }
 
-// Stores the fields of a value that was counted and has room.
+// Stores the fields of a value that was counted and has room. Each number was judged as a value of its own sort when it was counted.
 fn fill(row: Row, s: &[u8], numbers: &mut [u32])
     requires { ⌜ (length (now s) ≤ 4096) × (Walkable row × Roomy (readRow row (now s)) (length (now numbers))) ⌝ }
     ensures { λ _. ⌜ now (numbers .exit) ≡ lent (now (numbers .entry)) (readRow row (now (s .entry))) ⌝ }
@@ -61,16 +61,16 @@ fn fill(row: Row, s: &[u8], numbers: &mut [u32])
     let mut i: usize = 0;
     loop {
         while i < row.size {
-            let slot = row.slots[i];
-            let f = slot.0;
-            let w = pmd::width(f);
+            let piece = row.pieces[i];
+            let f = piece.0;
+            let w = piece.1 as usize;
             let mut more = true;
             while more {
-                let v = pmd::number_of(pmd::value_of(f, bits::fetch(s, at, w)));
+                let v = bits::fetch(s, at, w);
                 numbers[n] = v;
                 at += w;
                 n += 1;
-                more = pmd::goes_on(f, v);
+                more = pmd::goes_on(piece.2, v);
             }
             i += 1;
         }

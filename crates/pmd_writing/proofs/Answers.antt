@@ -16,25 +16,25 @@ use Rattle.refusals.specs.declared.Answer.the-variants as A
 use Rattle.pmd.specs.declared.Kind.{Kind}
 use Rattle.pmd.specs.declared.Named.{Named}
 use Rattle.pmd.specs.declared.Named.the-variants as N
-use Rattle.pmd.specs.declared.Field.{Field}
+use Rattle.pmd.specs.declared.Piece.{Piece}
 use Rattle.pmd.specs.Table.{kindOf}
 use Rattle.pmd.specs.Lent.{within, Delivered}
 use Rattle.pmd.specs.Writing.{bytesFor, packed, packing, writeFrom, writeAs, writing}
 use Rattle.pmd.proofs.Outcomes.{fine-within, none-within, refused-was, done-was, delivered-refused}
 use Rattle.pmd.proofs.Packed.{length-packed}
+use Rattle.pmd.proofs.Trip.{write-below}
 use Rattle.pmd_rows.specs.declared.Row.{Row}
-use Rattle.pmd_rows.specs.Rows.{RowFor}
+use Rattle.pmd_rows.specs.Rows.{leftOf, RowFor}
 use Rattle.pmd_writing.specs.ByRow.{writeRow, weight, Roomy}
-use Rattle.pmd_writing.proofs.Laid.{weight-most}
 
--- a weight below the cap is the length, and one above it is that of a run that is too long
-weight-is : (bs : List ℕ) (total : ℕ) → weight bs ≡ total → total ≤ 32768 → length bs ≡ total
-weight-is bs total e h =
-    split (leb (length bs) 32768) (λ l. simp l at e) (λ l. let most : 32769 ≡ total = simp l at e in absurd (omega arith))
+-- a weight that a value may have is that of the bits, and one that is too much is that of bits that are too many
+weight-is : (vs bs : List ℕ) (total : ℕ) → weight vs bs ≡ total → total ≤ 32768 → length bs ≡ total
+weight-is vs bs total e h =
+    split (leb (length vs) 32768) (λ l. simp l at e) (λ l. let most : 32769 ≡ total = simp l at e in absurd (omega arith))
 
-weight-big : (bs : List ℕ) (total : ℕ) → weight bs ≡ total → 4096 < (total + 7) / 8 → 4096 < bytesFor (length bs)
-weight-big bs total e h =
-    split (leb (length bs) 32768) (λ l. let same : length bs ≡ total = simp l at e in omega arith) (λ l. omega (arith, leb-false (length bs) 32768 l))
+weight-big : (vs bs : List ℕ) (total : ℕ) → length vs ≤ length bs → weight vs bs ≡ total → 32768 < total → 4096 < bytesFor (length bs)
+weight-big vs bs total more e h =
+    split (leb (length vs) 32768) (λ l. let same : length bs ≡ total = simp l at e in omega arith) (λ l. omega (arith, leb-false (length vs) 32768 l))
 
 module _ (kind : ℕ) (vs before : List ℕ) where
   abbrev outcome : Outcome (List ℕ)
@@ -52,37 +52,34 @@ module _ (kind : ℕ) (vs before : List ℕ) where
     unfolding writeAs
     write-unknown k h = refuses (as-named N.Unknown k) h
 
-    module _ {known : Kind} (k : named ≡ N.Known known) {row : Row} (holds : RowFor known row) {weighed : Answer} (c : weighed ≡ answered weight (writeRow row vs)) where
+    module _ {known : Kind} (k : named ≡ N.Known known) {row : Row} (holds : RowFor known row) {weighed : Answer} (c : weighed ≡ answered (weight vs) (writeRow row vs)) where
       by-row : writing kind vs ≡ within 4096 (packing (writeRow row vs))
       unfolding writeAs
       by-row =
           as-named (N.Known known) k
-          ∙ ap (λ (o : Outcome (List ℕ)). within 4096 (packing o)) (sym (ap₂ (λ (again first : List Field). writeFrom again first vs 0) (holds .again) (holds .first)))
+          ∙ ap (λ (o : Outcome (List ℕ)). within 4096 (packing o)) (sym (ap₂ (λ (again first : List Piece). writeFrom again first vs 0) (holds .again) (holds .first)))
 
       pub write-refused : {why : Refusal} {place : ℕ} → weighed ≡ A.Refused why place → Delivered outcome before weighed before
       unfolding andThen
-      write-refused h = refuses (by-row ∙ ap (λ (o : Outcome (List ℕ)). within 4096 (packing o)) (refused-was weight c h)) h
+      write-refused h = refuses (by-row ∙ ap (λ (o : Outcome (List ℕ)). within 4096 (packing o)) (refused-was (weight vs) c h)) h
 
       module _ {total : ℕ} (done : weighed ≡ A.Done total) where
-        pub total-most : total ≤ 32769
-        total-most = let x = done-was weight c done in subst (λ (n : ℕ). n ≤ 32769) (x .2) (weight-most (x .0))
-
         run : List ℕ
-        run = done-was weight c done .0
+        run = done-was (weight vs) c done .0
 
         bytes : writing kind vs ≡ within 4096 (fine (packed run))
         unfolding andThen run
-        bytes = by-row ∙ ap (λ (o : Outcome (List ℕ)). within 4096 (packing o)) (done-was weight c done .1)
+        bytes = by-row ∙ ap (λ (o : Outcome (List ℕ)). within 4096 (packing o)) (done-was (weight vs) c done .1)
 
-        pub write-big : {r : Answer} → 4096 < (total + 7) / 8 → r ≡ A.Refused R.NoRoom 0 → Delivered outcome before r before
+        pub write-big : {r : Answer} → 32768 < total → r ≡ A.Refused R.NoRoom 0 → Delivered outcome before r before
         unfolding run
         write-big l h =
-            refuses (bytes ∙ none-within 4096 (packed run) (omega (arith, length-packed run, weight-big run total (done-was weight c done .2) l))) h
+            refuses (bytes ∙ none-within 4096 (packed run) (omega (arith, length-packed run, weight-big vs run total (write-below (leftOf row (row .again)) (leftOf row 0) vs 0 run (done-was (weight vs) c done .1) .1) (done-was (weight vs) c done .2) l))) h
 
-        module _ (small : (total + 7) / 8 ≤ 4096) where
+        module _ (small : total ≤ 32768) where
           size : length (packed run) ≡ (total + 7) / 8
           unfolding run
-          size = length-packed run ∙ ap bytesFor (weight-is run total (done-was weight c done .2) (omega arith))
+          size = length-packed run ∙ ap bytesFor (weight-is vs run total (done-was (weight vs) c done .2) small)
 
           all : writing kind vs ≡ fine (packed run)
           all = bytes ∙ fine-within 4096 (packed run) (omega (arith, size))
@@ -94,12 +91,12 @@ module _ (kind : ℕ) (vs before : List ℕ) where
             pub write-roomy : Roomy (writeRow row vs) (length before)
             unfolding run
             write-roomy =
-                let x = done-was weight c done in
-                let same = weight-is (x .0) total (x .2) (omega arith) in
+                let x = done-was (weight vs) c done in
+                let same = weight-is vs (x .0) total (x .2) small in
                 record { run = x .0; is = x .1; small = omega arith; fit = omega arith }
 
             pub write-done : {r : Answer} {after : List ℕ} → Delivered (packing (writeRow row vs)) before r after → Delivered outcome before r after
             unfolding andThen run
             write-done {r} {after} d =
                 subst (λ (o : Outcome (List ℕ)). Delivered o before r after)
-                (sym (ap (within (length before)) all ∙ fine-within (length before) (packed run) (omega (arith, size)) ∙ sym (ap packing (done-was weight c done .1)))) d
+                (sym (ap (within (length before)) all ∙ fine-within (length before) (packed run) (omega (arith, size)) ∙ sym (ap packing (done-was (weight vs) c done .1)))) d

@@ -6,13 +6,14 @@ use pmd_rows::Row;
 use refusals::Answer;
 use refusals::Refusal;
 ghost use mathlib.Core.Path.{_≡_};
+ghost use mathlib.Core.Bool.{cond};
 ghost use lib.ListN.{length};
 ghost use Rattle.refusals.specs.Outcomes.{answered};
 ghost use Rattle.pmd.specs.Table.{widthOf};
 ghost use Rattle.pmd.specs.Lent.{within, Delivered};
 ghost use Rattle.pmd.specs.Writing.{packing, writing};
 ghost use Rattle.pmd_rows.specs.Rows.{Walkable};
-ghost use Rattle.pmd_writing.specs.ByRow.{writeRow, fits, capped, weight, Roomy};
+ghost use Rattle.pmd_writing.specs.ByRow.{writeRow, fits, weight, Roomy};
 
 // Whether a field of w bits takes the number v.
 fn takes(f: Field, w: usize, v: u32) -> bool
@@ -22,29 +23,31 @@ fn takes(f: Field, w: usize, v: u32) -> bool
     v < 1 << w && pmd::holds(pmd::value_of(f, v))
 }
 
-// A count of bits that stops above 4,096 bytes: a list may be longer than any count.
-fn cap(n: usize) -> usize
-    ensures { λ r. ⌜ r ≡ capped n ⌝ }
+// The bits of a value of 4,096 bytes: no value has more.
+const MOST_BITS: usize = 32768;
+
+fn choose(first: bool, a: usize, b: usize) -> usize
+    ensures { λ r. ⌜ r ≡ cond first a b ⌝ }
 {
-    if n <= 32768 {
-        return n;
-    }
-    32769
+    if first { a } else { b }
 }
 
-// How many bits the numbers take as records of this row, or what is wrong with them.
+// How many bits the numbers take as records of this row, or what is wrong with them. A list may be so long that no count holds its bits: one of
+// more numbers than a value has bits, each of which takes a bit at least, is judged and not weighed.
 fn weigh(row: Row, numbers: &[u32]) -> Answer
     requires { ⌜ Walkable row ⌝ }
-    ensures { λ r. ⌜ r ≡ answered weight (writeRow row (now (numbers .entry))) ⌝ }
+    ensures { λ r. ⌜ r ≡ answered (weight (now (numbers .entry))) (writeRow row (now (numbers .entry))) ⌝ }
 {
-    let mut total: usize = 0;
+    let few = numbers.len() <= MOST_BITS;
+    let mut total = choose(few, 0, MOST_BITS + 1);
     let mut n: usize = 0;
     let mut i: usize = 0;
     loop {
         while i < row.size {
-            let slot = row.slots[i];
-            let f = slot.0;
-            let w = pmd::width(f);
+            let piece = row.pieces[i];
+            let f = piece.0;
+            let w = piece.1 as usize;
+            let step = choose(few, w, 0);
             let mut more = true;
             while more {
                 if numbers.len() <= n {
@@ -54,9 +57,9 @@ fn weigh(row: Row, numbers: &[u32]) -> Answer
                 if !takes(f, w, v) {
                     return pmd::refused(Refusal::Field, n);
                 }
-                total = cap(total + w);
+                total += step;
                 n += 1;
-                more = pmd::goes_on(f, v);
+                more = pmd::goes_on(piece.2, v);
             }
             i += 1;
         }
@@ -81,15 +84,15 @@ fn put(row: Row, numbers: &[u32], out: &mut [u8]) -> Answer
     let mut i: usize = 0;
     loop {
         while i < row.size {
-            let slot = row.slots[i];
-            let f = slot.0;
-            let w = pmd::width(f);
+            let piece = row.pieces[i];
+            let f = piece.0;
+            let w = piece.1 as usize;
             let mut more = true;
             while more {
                 let v = pmd::number_of(pmd::value_of(f, numbers[n]));
                 pen = bits::put_field(&mut *out, pen, w, v);
                 n += 1;
-                more = pmd::goes_on(f, v);
+                more = pmd::goes_on(piece.2, v);
             }
             i += 1;
         }
@@ -113,8 +116,7 @@ pub fn pmd_write(kind: u32, numbers: &[u32], out: &mut [u8]) -> Answer
     let Answer::Done(total) = weighed else {
         return weighed;
     };
-    let size = (total + 7) / 8;
-    if 4096 < size || out.len() < size {
+    if MOST_BITS < total || out.len() < (total + 7) / 8 {
         return pmd::refused(Refusal::NoRoom, 0);
     }
     put(row, numbers, &mut *out)

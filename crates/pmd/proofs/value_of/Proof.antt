@@ -29,7 +29,7 @@ cast-substream : tie.Need-cast-t8
 cast-substream c = let h = narrow _ {g = F.Substream} (c .enum-told3 .given .1) (c .before .before .pre) in omega arith
 
 listed-requires : tie.Need-listed-requires
-listed-requires c κs = narrow _ {g = F.Elements} (c .enum-told8 .given .1) (c .before .before .pre)
+listed-requires c κs = narrow _ {g = F.Listed} (c .enum-told8 .given .1) (c .before .before .pre)
 
 pub value-of-spec : {M : Type 1} → statement M
 value-of-spec =

@@ -9,36 +9,30 @@ use borrow.Author.Tests.{not-true, not-false}
 use denote.Ref.{now}
 use lib.ListN.{length, getD}
 use Rattle.bits.proofs.Fields.{field-lt}
-use Rattle.pmd.specs.declared.Field.{Field}
-use Rattle.pmd.specs.declared.Field.the-variants as F
-use Rattle.pmd.specs.Table.{valueOf, mayHold}
+use Rattle.pmd.specs.declared.Piece.{Piece}
+use Rattle.pmd.specs.Table.{widthOf, valueOf, mayHold}
 use Rattle.pmd.proofs.Fields.{width-some}
 use Rattle.pmd.proofs.Outcomes.{answers, counts}
 use Rattle.refusals.specs.declared.Answer.the-variants as A
-use Rattle.pmd_rows.specs.declared.Slot.{Slot}
 use Rattle.pmd_rows.specs.declared.Row.{Row}
 use Rattle.pmd_rows.specs.Rows.{leftOf}
-use Rattle.pmd_rows.proofs.Walk.{Records, Slots, Numbers, slots-begin, numbers-begin, numbers-open, numbers-on, slots-on, slots-over}
+use Rattle.pmd_rows.proofs.Walk.{Records, Pieces, Fields, blank, wide-at, pieces-begin, fields-begin, fields-open, fields-on, pieces-on, pieces-over}
 use Rattle.pmd_reading.proofs.Kept.{Found, kept-begins, kept-short, kept-bad, kept-on, kept-ends, kept-pad, kept-again}
 use Rattle.pmd_reading.proofs.count.Statement.{statement}
 use Rattle.pmd_reading.proofs.count.Tie as tie
-
--- what the checker takes to stand outside of the slots
-abbrev first : Slot
-first = record { 0 = F.Presentation }
 
 -- of the numbers themselves nothing is kept
 abbrev Any : List ℕ → Type 0
 Any xs = xs ≡ xs
 
 abbrev Inv-loop3 : tie.InvT-loop3
-Inv-loop3 s row at₀ n₀ i f w more₀ at n more = Numbers (Found Any row s at n) row i f at₀ at more
+Inv-loop3 s row at₀ n₀ i piece f w more₀ at n more = Fields (Found Any row s at n) row i piece at₀ at more
 
 abbrev μ-loop3 : tie.MeasureT-loop3
-μ-loop3 s row at₀ n₀ i f w more₀ at n more = 8 * length s - at
+μ-loop3 s row at₀ n₀ i piece f w more₀ at n more = 8 * length s - at
 
 abbrev Inv-loop2 : tie.InvT-loop2
-Inv-loop2 s row at₀ n₀ i₀ at n i = Slots (Found Any row s at n) row at₀ i₀ at i
+Inv-loop2 s row at₀ n₀ i₀ at n i = Pieces (Found Any row s at n) row at₀ i₀ at i
 
 abbrev μ-loop2 : tie.MeasureT-loop2
 μ-loop2 s row at₀ n₀ i₀ at n i = row .size - i
@@ -50,43 +44,49 @@ abbrev μ-loop : tie.MeasureT-loop
 μ-loop s row at₀ n₀ i₀ at n i = 8 * length s - at
 
 -- what a turn over the pieces looks at
-module _ (c : tie.After-width Inv-loop3 μ-loop3 Inv-loop2 μ-loop2 Inv-loop μ-loop) where
+module _ (c : tie.After-struct-known Inv-loop3 μ-loop3 Inv-loop2 μ-loop2 Inv-loop μ-loop) where
   abbrev row : Row
   row = c .before .before .before .before .before .before .args .t1
 
   abbrev value : List ℕ
   value = now (c .before .before .before .before .before .before .args .s)
 
-  abbrev field : Field
-  field = getD (row .slots) (c .before .before .before .loop2 .i) first .0
+  abbrev piece : Piece
+  piece = getD (row .pieces) (c .before .before .before .loop2 .i) blank
 
-  abbrev left : List Field
+  abbrev left : List Piece
   left = leftOf row (c .before .before .before .loop2 .i + 1)
 
   abbrev w : ℕ
-  w = c .width .result
+  w = piece .1
+
+  wide : w ≡ widthOf (piece .0)
+  wide = wide-at (c .before .before .before .before .before .before .pre .1) _ (c .before .before .loop2-test .taken)
 
   narrow : (1 ≤ w) × (w ≤ 15)
-  narrow = subst (λ (m : ℕ). (1 ≤ m) × (m ≤ 15)) (sym (c .width .ensures)) (width-some field)
+  narrow = subst (λ (m : ℕ). (1 ≤ m) × (m ≤ 15)) (sym wide) (width-some (piece .0))
 
 -- what is known where a field is due
-due : (c : tie.In-loop3 Inv-loop3 μ-loop3 Inv-loop2 μ-loop2 Inv-loop μ-loop) → Found Any (row (c .before .before)) (value (c .before .before)) (c .before .loop3 .at) (c .before .loop3 .n) (field (c .before .before) ∷ left (c .before .before))
-due c = numbers-open (c .before .loop3 .inv) (c .loop3-test .taken)
+due : (c : tie.In-loop3 Inv-loop3 μ-loop3 Inv-loop2 μ-loop2 Inv-loop μ-loop) → Found Any (row (c .before .before)) (value (c .before .before)) (c .before .loop3 .at) (c .before .loop3 .n) (piece (c .before .before) ∷ left (c .before .before))
+due c = fields-open (c .before .loop3 .inv) (c .loop3-test .taken)
 
 loop-holds : tie.Need-loop-holds Inv-loop3 μ-loop3 Inv-loop2 μ-loop2 Inv-loop μ-loop
 loop-holds c = record { known = record { xs = []; also = refl; kept = kept-begins _ _ }; there = omega arith }
 
 loop2-holds : tie.Need-loop2-holds Inv-loop3 μ-loop3 Inv-loop2 μ-loop2 Inv-loop μ-loop
-loop2-holds c = slots-begin _ (c .loop .inv)
+loop2-holds c = pieces-begin _ (c .loop .inv)
 
-element-copy-out-slot : tie.Need-element-copy-out-slot Inv-loop3 μ-loop3 Inv-loop2 μ-loop2 Inv-loop μ-loop
-element-copy-out-slot c = search needs
+mul-piece : tie.Need-mul-piece Inv-loop3 μ-loop3 Inv-loop2 μ-loop2 Inv-loop μ-loop
+mul-piece c = search needs
 
-width-requires : tie.Need-width-requires Inv-loop3 μ-loop3 Inv-loop2 μ-loop2 Inv-loop μ-loop
-width-requires c κs = search needs
+element-copy-out-piece : tie.Need-element-copy-out-piece Inv-loop3 μ-loop3 Inv-loop2 μ-loop2 Inv-loop μ-loop
+element-copy-out-piece c = search needs
+
+cast-w : tie.Need-cast-w Inv-loop3 μ-loop3 Inv-loop2 μ-loop2 Inv-loop μ-loop
+cast-w c = search needs
 
 loop3-holds : tie.Need-loop3-holds Inv-loop3 μ-loop3 Inv-loop2 μ-loop2 Inv-loop μ-loop
-loop3-holds c = numbers-begin first (c .before .before .before .before .before .before .pre .1) (c .before .before .loop2-test .taken) (c .before .before .before .loop2 .inv)
+loop3-holds c = fields-begin (c .before .before .before .before .before .before .pre .1) (c .before .before .loop2-test .taken) (c .before .before .before .loop2 .inv)
 
 mul-if1 : tie.Need-mul-if1 Inv-loop3 μ-loop3 Inv-loop2 μ-loop2 Inv-loop μ-loop
 mul-if1 c = search needs
@@ -98,13 +98,13 @@ refused-requires : tie.Need-refused-requires Inv-loop3 μ-loop3 Inv-loop2 μ-loo
 refused-requires c κs = search needs
 
 returns : tie.Need-returns Inv-loop3 μ-loop3 Inv-loop2 μ-loop2 Inv-loop μ-loop
-returns c = answers length (kept-short (due (c .before .before) .kept) (w (c .before .before .before .before)) (c .before .before .before .before .width .ensures) (c .before .if1 .taken)) (c .refused .ensures)
+returns c = answers length (kept-short (due (c .before .before) .kept) (w (c .before .before .before .before)) (wide (c .before .before .before .before)) (c .before .if1 .taken)) (c .refused .ensures)
 
 fetch-requires : tie.Need-fetch-requires Inv-loop3 μ-loop3 Inv-loop2 μ-loop2 Inv-loop μ-loop
 fetch-requires c κs = let d = due (c .before) .kept in let n = narrow (c .before .before .before) in omega (arith, d .inside, n, c .if1 .left)
 
 value-of-requires : tie.Need-value-of-requires Inv-loop3 μ-loop3 Inv-loop2 μ-loop2 Inv-loop μ-loop
-value-of-requires c κs = subst (λ (m : ℕ). c .fetch .result < 2 ^ m) (c .before .before .before .before .width .ensures) (subst (λ (x : ℕ). x < 2 ^ w (c .before .before .before .before)) (sym (c .fetch .ensures)) (field-lt _ _ _))
+value-of-requires c κs = subst (λ (m : ℕ). c .fetch .result < 2 ^ m) (wide (c .before .before .before .before)) (subst (λ (x : ℕ). x < 2 ^ w (c .before .before .before .before)) (sym (c .fetch .ensures)) (field-lt _ _ _))
 
 holds-requires : tie.Need-holds-requires Inv-loop3 μ-loop3 Inv-loop2 μ-loop2 Inv-loop μ-loop
 holds-requires c κs = search needs
@@ -113,11 +113,11 @@ refused-requires-2 : tie.Need-refused-requires-2 Inv-loop3 μ-loop3 Inv-loop2 μ
 refused-requires-2 c κs = search needs
 
 -- what was judged is the number that was fetched
-judged : (c : tie.After-holds Inv-loop3 μ-loop3 Inv-loop2 μ-loop2 Inv-loop μ-loop) → mayHold (valueOf (field (c .before .before .before .before .before .before)) (c .before .before .fetch .result)) ≡ c .holds .result
+judged : (c : tie.After-holds Inv-loop3 μ-loop3 Inv-loop2 μ-loop2 Inv-loop μ-loop) → mayHold (valueOf (piece (c .before .before .before .before .before .before) .0) (c .before .before .fetch .result)) ≡ c .holds .result
 judged c = sym (c .holds .ensures ∙ ap mayHold (c .before .value-of .ensures))
 
 returns-2 : tie.Need-returns-2 Inv-loop3 μ-loop3 Inv-loop2 μ-loop2 Inv-loop μ-loop
-returns-2 c = let h = c .before .before in let d = h .before .before .before in answers length (kept-bad (due (d .before) .kept) (w (d .before .before .before)) (d .before .before .before .width .ensures) (d .if1 .left) _ (h .before .before .fetch .ensures) (judged h ∙ not-true _ (c .before .if2 .taken))) (c .refused2 .ensures)
+returns-2 c = let h = c .before .before in let d = h .before .before .before in answers length (kept-bad (due (d .before) .kept) (w (d .before .before .before)) (wide (d .before .before .before)) (d .if1 .left) _ (h .before .before .fetch .ensures) (judged h ∙ not-true _ (c .before .if2 .taken))) (c .refused2 .ensures)
 
 add-at : tie.Need-add-at Inv-loop3 μ-loop3 Inv-loop2 μ-loop2 Inv-loop μ-loop
 add-at c = let d = c .before .before .before .before in omega (arith, due (d .before) .kept .inside, d .if1 .left)
@@ -137,8 +137,8 @@ loop3-again c =
     let d = h .before .before .before in
     let k = due (d .before) in
     let t = d .before .before .before in
-    numbers-on (d .before .before .loop3 .inv) (omega (arith, narrow t))
-    (record { xs = _; also = refl; kept = kept-on (k .kept) (w t) (t .width .ensures) (d .if1 .left) _ (h .before .before .fetch .ensures) (judged h ∙ not-false _ (c .before .if2 .left)) (c .goes-on .ensures) })
+    fields-on (d .before .before .loop3 .inv) (omega (arith, narrow t))
+    (record { xs = _; also = refl; kept = kept-on (k .kept) (w t) (wide t) (d .if1 .left) _ (h .before .before .fetch .ensures) (judged h ∙ not-false _ (c .before .if2 .left)) (c .goes-on .ensures) })
 
 add-i : tie.Need-add-i Inv-loop3 μ-loop3 Inv-loop2 μ-loop2 Inv-loop μ-loop
 add-i c = omega (arith, c .before .before .before .before .loop2-test .taken)
@@ -147,7 +147,7 @@ loop2-less : tie.Need-loop2-less Inv-loop3 μ-loop3 Inv-loop2 μ-loop2 Inv-loop 
 loop2-less c = omega (arith, c .before .before .before .before .loop2-test .taken)
 
 loop2-again : tie.Need-loop2-again Inv-loop3 μ-loop3 Inv-loop2 μ-loop2 Inv-loop μ-loop
-loop2-again c = slots-on (c .before .loop3 .inv) (c .before .before .before .before .before .loop2 .inv) (c .loop3-test .left)
+loop2-again c = pieces-on (c .before .loop3 .inv) (c .before .before .before .before .before .loop2 .inv) (c .loop3-test .left)
 
 mul-rest : tie.Need-mul-rest Inv-loop3 μ-loop3 Inv-loop2 μ-loop2 Inv-loop μ-loop
 mul-rest c = search needs
@@ -160,7 +160,7 @@ fetch-requires-2 c κs = let i = c .before .before .loop2 .inv .known .kept .ins
 
 -- what is known where a record is closed
 over : (c : tie.After-loop2 Inv-loop3 μ-loop3 Inv-loop2 μ-loop2 Inv-loop μ-loop) → Found Any (c .before .before .before .before .args .t1) (now (c .before .before .before .before .args .s)) (c .before .loop2 .at) (c .before .loop2 .n) []
-over c = slots-over (c .before .before .before .before .pre .1) (c .loop2-test .left) (c .before .loop2 .inv)
+over c = pieces-over (c .before .before .before .before .pre .1) (c .loop2-test .left) (c .before .loop2 .inv)
 
 returns-3 : tie.Need-returns-3 Inv-loop3 μ-loop3 Inv-loop2 μ-loop2 Inv-loop μ-loop
 returns-3 c = let o = over (c .before .before .before) in counts length (kept-ends (o .kept) (c .before .before .if3 .taken) _ (c .before .fetch2 .ensures) (c .if4 .taken)) (ap A.Done (sym (o .kept .long)))
@@ -189,8 +189,9 @@ count-spec =
     μ-loop
     loop-holds
     loop2-holds
-    element-copy-out-slot
-    width-requires
+    mul-piece
+    element-copy-out-piece
+    cast-w
     loop3-holds
     mul-if1
     sub-if1

@@ -1,25 +1,21 @@
 -- `pmd_reading::fill` meets its contract. Its loops keep what those of `count` keep, and that the numbers found stand in the lent run. A value
 -- that was counted has each field, and each is good.
 -- Assumes nothing.
-use Prim.Native.Nat.{ℕ, _+_, _-_, _*_, _^_, _<_, _≤_}
-use mathlib.Core.Path.{_≡_, refl, sym, ap, subst, _∙_}
+use Prim.Native.Nat.{ℕ, _+_, _-_, _*_, _<_, _≤_}
+use mathlib.Core.Path.{_≡_, refl, sym, subst}
 use mathlib.Core.Bool.{Bool}
 use mathlib.Core.List.{List, [], _∷_, _++_}
 use native.Mathlib.Omega.{arith}
 use borrow.Author.Needs.{needs}
 use denote.Ref.{now}
 use lib.ListN.{length, getD}
-use Rattle.bits.specs.Bits.{fieldAt}
-use Rattle.bits.proofs.Fields.{field-lt}
-use Rattle.pmd.specs.declared.Field.{Field}
-use Rattle.pmd.specs.declared.Field.the-variants as F
-use Rattle.pmd.specs.Table.{asNumber}
+use Rattle.pmd.specs.declared.Piece.{Piece}
+use Rattle.pmd.specs.Table.{widthOf}
 use Rattle.pmd.specs.Records.{goesOn, onward}
-use Rattle.pmd.proofs.Fields.{width-some, number-value}
-use Rattle.pmd_rows.specs.declared.Slot.{Slot}
+use Rattle.pmd.proofs.Fields.{width-some}
 use Rattle.pmd_rows.specs.declared.Row.{Row}
 use Rattle.pmd_rows.specs.Rows.{leftOf}
-use Rattle.pmd_rows.proofs.Walk.{Records, Slots, Numbers, slots-begin, numbers-begin, numbers-open, numbers-on, slots-on, slots-over}
+use Rattle.pmd_rows.proofs.Walk.{Records, Pieces, Fields, blank, wide-at, pieces-begin, fields-begin, fields-open, fields-on, pieces-on, pieces-over}
 use Rattle.pmd_rows.proofs.Frame.{Frame, frame-begins, frame-then, frame-set}
 use Rattle.pmd_reading.specs.ByRow.{readRow, Roomy}
 use Rattle.pmd_reading.proofs.Kept.{Kept, Found, kept-begins, kept-on, kept-again, roomy-there, roomy-good, roomy-for, roomy-ends}
@@ -27,19 +23,15 @@ use Rattle.pmd_reading.proofs.Stored.{Stored, stored-on, stored-ends}
 use Rattle.pmd_reading.proofs.fill.Statement.{statement}
 use Rattle.pmd_reading.proofs.fill.Tie as tie
 
--- what the checker takes to stand outside of the slots
-abbrev first : Slot
-first = record { 0 = F.Presentation }
-
 abbrev Inv-loop3 : tie.InvT-loop3
-Inv-loop3 s numbers₀ row at₀ n₀ i f w more₀ numbers at n more =
-    Numbers (Found (Stored numbers n) row s at n) row i f at₀ at more × Frame numbers₀ n₀ numbers n
+Inv-loop3 s numbers₀ row at₀ n₀ i piece w more₀ numbers at n more =
+    Fields (Found (Stored numbers n) row s at n) row i piece at₀ at more × Frame numbers₀ n₀ numbers n
 
 abbrev μ-loop3 : tie.MeasureT-loop3
-μ-loop3 s numbers₀ row at₀ n₀ i f w more₀ numbers at n more = 8 * length s - at
+μ-loop3 s numbers₀ row at₀ n₀ i piece w more₀ numbers at n more = 8 * length s - at
 
 abbrev Inv-loop2 : tie.InvT-loop2
-Inv-loop2 s numbers₀ row at₀ n₀ i₀ numbers at n i = Slots (Found (Stored numbers n) row s at n) row at₀ i₀ at i × Frame numbers₀ n₀ numbers n
+Inv-loop2 s numbers₀ row at₀ n₀ i₀ numbers at n i = Pieces (Found (Stored numbers n) row s at n) row at₀ i₀ at i × Frame numbers₀ n₀ numbers n
 
 abbrev μ-loop2 : tie.MeasureT-loop2
 μ-loop2 s numbers₀ row at₀ n₀ i₀ numbers at n i = row .size - i
@@ -51,7 +43,7 @@ abbrev μ-loop : tie.MeasureT-loop
 μ-loop s numbers₀ row at₀ n₀ i₀ numbers at n i = 8 * length s - at
 
 -- what a turn over the pieces looks at
-module _ (c : tie.After-width Inv-loop3 μ-loop3 Inv-loop2 μ-loop2 Inv-loop μ-loop) where
+module _ (c : tie.After-struct-known Inv-loop3 μ-loop3 Inv-loop2 μ-loop2 Inv-loop μ-loop) where
   abbrev row : Row
   row = c .before .before .before .before .before .before .before .args .t1
 
@@ -61,67 +53,64 @@ module _ (c : tie.After-width Inv-loop3 μ-loop3 Inv-loop2 μ-loop2 Inv-loop μ-
   abbrev lent : List ℕ
   lent = now (c .before .before .before .before .before .before .before .args .numbers)
 
-  abbrev field : Field
-  field = getD (row .slots) (c .before .before .before .loop2 .i) first .0
+  abbrev piece : Piece
+  piece = getD (row .pieces) (c .before .before .before .loop2 .i) blank
 
-  abbrev left : List Field
+  abbrev left : List Piece
   left = leftOf row (c .before .before .before .loop2 .i + 1)
 
   abbrev w : ℕ
-  w = c .width .result
+  w = piece .1
+
+  wide : w ≡ widthOf (piece .0)
+  wide = wide-at (c .before .before .before .before .before .before .before .pre .1 .0) _ (c .before .before .loop2-test .taken)
 
   narrow : (1 ≤ w) × (w ≤ 15)
-  narrow = subst (λ (m : ℕ). (1 ≤ m) × (m ≤ 15)) (sym (c .width .ensures)) (width-some field)
+  narrow = subst (λ (m : ℕ). (1 ≤ m) × (m ≤ 15)) (sym wide) (width-some (piece .0))
 
   roomy : Roomy (readRow row value) (length lent)
   roomy = c .before .before .before .before .before .before .before .pre .1 .1
 
 -- what is known where a field is due: it is there
 module _ (c : tie.In-loop3 Inv-loop3 μ-loop3 Inv-loop2 μ-loop2 Inv-loop μ-loop) where
-  due : Found (Stored (c .before .loop3 .numbers) (c .before .loop3 .n)) (row (c .before .before)) (value (c .before .before)) (c .before .loop3 .at) (c .before .loop3 .n) (field (c .before .before) ∷ left (c .before .before))
-  due = numbers-open (c .before .loop3 .inv .0) (c .loop3-test .taken)
+  due : Found (Stored (c .before .loop3 .numbers) (c .before .loop3 .n)) (row (c .before .before)) (value (c .before .before)) (c .before .loop3 .at) (c .before .loop3 .n) (piece (c .before .before) ∷ left (c .before .before))
+  due = fields-open (c .before .loop3 .inv .0) (c .loop3-test .taken)
 
   there : w (c .before .before) ≤ 8 * length (value (c .before .before)) - c .before .loop3 .at
-  there = roomy-there (roomy (c .before .before)) (due .kept) (w (c .before .before)) (c .before .before .width .ensures)
+  there = roomy-there (roomy (c .before .before)) (due .kept) (w (c .before .before)) (wide (c .before .before))
 
 loop-holds : tie.Need-loop-holds Inv-loop3 μ-loop3 Inv-loop2 μ-loop2 Inv-loop μ-loop
 loop-holds c = (record { known = record { xs = []; also = refl; kept = kept-begins _ _ }; there = omega arith }, frame-begins _ 0)
 
 loop2-holds : tie.Need-loop2-holds Inv-loop3 μ-loop3 Inv-loop2 μ-loop2 Inv-loop μ-loop
-loop2-holds c = (slots-begin _ (c .loop .inv .0), frame-begins _ _)
+loop2-holds c = (pieces-begin _ (c .loop .inv .0), frame-begins _ _)
 
-element-copy-out-slot : tie.Need-element-copy-out-slot Inv-loop3 μ-loop3 Inv-loop2 μ-loop2 Inv-loop μ-loop
-element-copy-out-slot c = search needs
+mul-piece : tie.Need-mul-piece Inv-loop3 μ-loop3 Inv-loop2 μ-loop2 Inv-loop μ-loop
+mul-piece c = search needs
 
-width-requires : tie.Need-width-requires Inv-loop3 μ-loop3 Inv-loop2 μ-loop2 Inv-loop μ-loop
-width-requires c κs = search needs
+element-copy-out-piece : tie.Need-element-copy-out-piece Inv-loop3 μ-loop3 Inv-loop2 μ-loop2 Inv-loop μ-loop
+element-copy-out-piece c = search needs
+
+cast-w : tie.Need-cast-w Inv-loop3 μ-loop3 Inv-loop2 μ-loop2 Inv-loop μ-loop
+cast-w c = search needs
 
 loop3-holds : tie.Need-loop3-holds Inv-loop3 μ-loop3 Inv-loop2 μ-loop2 Inv-loop μ-loop
-loop3-holds c = (numbers-begin first (c .before .before .before .before .before .before .before .pre .1 .0) (c .before .before .loop2-test .taken) (c .before .before .before .loop2 .inv .0), frame-begins _ _)
+loop3-holds c = (fields-begin (c .before .before .before .before .before .before .before .pre .1 .0) (c .before .before .loop2-test .taken) (c .before .before .before .loop2 .inv .0), frame-begins _ _)
 
 fetch-requires : tie.Need-fetch-requires Inv-loop3 μ-loop3 Inv-loop2 μ-loop2 Inv-loop μ-loop
 fetch-requires c κs = omega (arith, due c .kept .inside, there c, narrow (c .before .before))
 
-value-of-requires : tie.Need-value-of-requires Inv-loop3 μ-loop3 Inv-loop2 μ-loop2 Inv-loop μ-loop
-value-of-requires c κs = subst (λ (m : ℕ). c .fetch .result < 2 ^ m) (c .before .before .before .width .ensures) (subst (λ (x : ℕ). x < 2 ^ w (c .before .before .before)) (sym (c .fetch .ensures)) (field-lt _ _ _))
-
-number-of-requires : tie.Need-number-of-requires Inv-loop3 μ-loop3 Inv-loop2 μ-loop2 Inv-loop μ-loop
-number-of-requires c κs = search needs
-
 -- the number that is stored is the field's, which is good, and it has room
-module _ (c : tie.After-number-of Inv-loop3 μ-loop3 Inv-loop2 μ-loop2 Inv-loop μ-loop) where
+module _ (c : tie.After-fetch Inv-loop3 μ-loop3 Inv-loop2 μ-loop2 Inv-loop μ-loop) where
   abbrev turn : tie.In-loop3 Inv-loop3 μ-loop3 Inv-loop2 μ-loop2 Inv-loop μ-loop
-  turn = c .before .before .before
+  turn = c .before
 
-  abbrev t : tie.After-width Inv-loop3 μ-loop3 Inv-loop2 μ-loop2 Inv-loop μ-loop
-  t = c .before .before .before .before .before
+  abbrev t : tie.After-struct-known Inv-loop3 μ-loop3 Inv-loop2 μ-loop2 Inv-loop μ-loop
+  t = c .before .before .before
 
-  stands : c .number-of .result ≡ fieldAt (value t) (turn .before .loop3 .at) (w t)
-  stands = c .number-of .ensures ∙ ap asNumber (c .before .value-of .ensures) ∙ number-value (field t) (c .before .before .fetch .result) ∙ c .before .before .fetch .ensures
-
-  next : {more : Bool} → more ≡ goesOn (field t) (c .number-of .result)
-      → Kept (row t) (value t) (due turn .xs ++ (c .number-of .result ∷ [])) (turn .before .loop3 .at + w t) (turn .before .loop3 .n + 1) (onward (field t) (left t) more)
-  next e = kept-on (due turn .kept) (w t) (t .width .ensures) (there turn) _ stands (roomy-good (roomy t) (due turn .kept) (w t) (t .width .ensures) _ stands) e
+  next : {more : Bool} → more ≡ goesOn (piece t .2) (c .fetch .result)
+      → Kept (row t) (value t) (due turn .xs ++ (c .fetch .result ∷ [])) (turn .before .loop3 .at + w t) (turn .before .loop3 .n + 1) (onward (piece t) (left t) more)
+  next e = kept-on (due turn .kept) (w t) (wide t) (there turn) _ (c .fetch .ensures) (roomy-good (roomy t) (due turn .kept) (w t) (wide t) _ (c .fetch .ensures)) e
 
   room : turn .before .loop3 .n < length (turn .before .loop3 .numbers)
   room = omega (arith, roomy-for (roomy t) (next refl), turn .before .loop3 .inv .1 .long, t .before .before .before .loop2 .inv .1 .long, t .before .before .before .before .loop .inv .1 .long)
@@ -147,9 +136,9 @@ loop3-less c = omega (arith, there (turn (c .before)), narrow (t (c .before)))
 loop3-again : tie.Need-loop3-again Inv-loop3 μ-loop3 Inv-loop2 μ-loop2 Inv-loop μ-loop
 loop3-again c =
     let f = turn (c .before) .before .loop3 in (
-      numbers-on (f .inv .0) (omega (arith, narrow (t (c .before))))
-          (record { xs = _; also = stored-on (f .numbers) (due (turn (c .before)) .xs) (f .n) (c .before .number-of .result) (room (c .before)) (due (turn (c .before)) .also); kept = next (c .before) (c .goes-on .ensures) }),
-      frame-then (f .inv .1) (frame-set (f .numbers) (f .n) (c .before .number-of .result)),
+      fields-on (f .inv .0) (omega (arith, narrow (t (c .before))))
+          (record { xs = _; also = stored-on (f .numbers) (due (turn (c .before)) .xs) (f .n) (c .before .fetch .result) (room (c .before)) (due (turn (c .before)) .also); kept = next (c .before) (c .goes-on .ensures) }),
+      frame-then (f .inv .1) (frame-set (f .numbers) (f .n) (c .before .fetch .result)),
     )
 
 add-i : tie.Need-add-i Inv-loop3 μ-loop3 Inv-loop2 μ-loop2 Inv-loop μ-loop
@@ -162,7 +151,7 @@ loop2-again : tie.Need-loop2-again Inv-loop3 μ-loop3 Inv-loop2 μ-loop2 Inv-loo
 loop2-again c =
     let p = c .before .before .before .before .before .loop2 .inv in
     let f = c .before .loop3 .inv in
-    (slots-on (f .0) (p .0) (c .loop3-test .left), frame-then (p .1) (f .1))
+    (pieces-on (f .0) (p .0) (c .loop3-test .left), frame-then (p .1) (f .1))
 
 mul-if1 : tie.Need-mul-if1 Inv-loop3 μ-loop3 Inv-loop2 μ-loop2 Inv-loop μ-loop
 mul-if1 c = search needs
@@ -173,7 +162,7 @@ sub-if1 c = c .before .loop2 .inv .0 .known .kept .inside
 -- what is known where a record is closed
 module _ (c : tie.After-loop2 Inv-loop3 μ-loop3 Inv-loop2 μ-loop2 Inv-loop μ-loop) where
   over : Found (Stored (c .before .loop2 .numbers) (c .before .loop2 .n)) (c .before .before .before .before .before .args .t1) (now (c .before .before .before .before .before .args .s)) (c .before .loop2 .at) (c .before .loop2 .n) []
-  over = slots-over (c .before .before .before .before .before .pre .1 .0) (c .loop2-test .left) (c .before .loop2 .inv .0)
+  over = pieces-over (c .before .before .before .before .before .pre .1 .0) (c .loop2-test .left) (c .before .loop2 .inv .0)
 
   kept-rest : Frame (now (c .before .before .before .before .before .args .numbers)) 0 (c .before .loop2 .numbers) (c .before .loop2 .n)
   kept-rest = frame-then (c .before .before .loop .inv .1) (c .before .loop2 .inv .1)
@@ -202,12 +191,11 @@ fill-spec =
     μ-loop
     loop-holds
     loop2-holds
-    element-copy-out-slot
-    width-requires
+    mul-piece
+    element-copy-out-piece
+    cast-w
     loop3-holds
     fetch-requires
-    value-of-requires
-    number-of-requires
     mul-numbers
     slice-write-numbers
     add-at

@@ -13,15 +13,13 @@ use Rattle.lists.specs.Digits.{digits}
 use Rattle.lists.proofs.Digits.{length-digits}
 use Rattle.bits.specs.Pen.{PenFits}
 use Rattle.bits.proofs.Written.{closed-length}
-use Rattle.pmd.specs.declared.Field.{Field}
-use Rattle.pmd.specs.declared.Field.the-variants as F
-use Rattle.pmd.specs.Table.{asNumber}
+use Rattle.pmd.specs.declared.Piece.{Piece}
+use Rattle.pmd.specs.Table.{widthOf, asNumber}
 use Rattle.pmd.specs.Records.{goesOn, onward}
 use Rattle.pmd.proofs.Fields.{width-some, number-value}
-use Rattle.pmd_rows.specs.declared.Slot.{Slot}
 use Rattle.pmd_rows.specs.declared.Row.{Row}
 use Rattle.pmd_rows.specs.Rows.{leftOf}
-use Rattle.pmd_rows.proofs.Walk.{Records, Slots, Numbers, slots-begin, numbers-begin, numbers-open, numbers-on, slots-on, slots-over}
+use Rattle.pmd_rows.proofs.Walk.{Records, Pieces, Fields, blank, wide-at, pieces-begin, fields-begin, fields-open, fields-on, pieces-on, pieces-over}
 use Rattle.pmd_rows.proofs.Frame.{Frame, frame-begins, frame-then}
 use Rattle.pmd_writing.specs.ByRow.{writeRow, fits, Roomy}
 use Rattle.pmd_writing.proofs.Laid.{Laid, Run, laid-begins, laid-on, laid-ends, laid-again, fits-lt, roomy-there, roomy-good, roomy-for}
@@ -29,19 +27,15 @@ use Rattle.pmd_writing.proofs.Inked.{Inked, inked-begins, inked-long, i
 use Rattle.pmd_writing.proofs.put.Statement.{statement}
 use Rattle.pmd_writing.proofs.put.Tie as tie
 
--- what the checker takes to stand outside of the slots
-abbrev first : Slot
-first = record { 0 = F.Presentation }
-
 abbrev Inv-loop3 : tie.InvT-loop3
-Inv-loop3 numbers out₀ row pen₀ n₀ i f w more₀ out pen n more =
-    Numbers (Run (Inked pen out) row numbers n) row i f n₀ n more × Frame out₀ (pen₀ .at) out (pen .at)
+Inv-loop3 numbers out₀ row pen₀ n₀ i piece f w more₀ out pen n more =
+    Fields (Run (Inked pen out) row numbers n) row i piece n₀ n more × Frame out₀ (pen₀ .at) out (pen .at)
 
 abbrev μ-loop3 : tie.MeasureT-loop3
-μ-loop3 numbers out₀ row pen₀ n₀ i f w more₀ out pen n more = length numbers - n
+μ-loop3 numbers out₀ row pen₀ n₀ i piece f w more₀ out pen n more = length numbers - n
 
 abbrev Inv-loop2 : tie.InvT-loop2
-Inv-loop2 numbers out₀ row pen₀ n₀ i₀ out pen n i = Slots (Run (Inked pen out) row numbers n) row n₀ i₀ n i × Frame out₀ (pen₀ .at) out (pen .at)
+Inv-loop2 numbers out₀ row pen₀ n₀ i₀ out pen n i = Pieces (Run (Inked pen out) row numbers n) row n₀ i₀ n i × Frame out₀ (pen₀ .at) out (pen .at)
 
 abbrev μ-loop2 : tie.MeasureT-loop2
 μ-loop2 numbers out₀ row pen₀ n₀ i₀ out pen n i = row .size - i
@@ -53,7 +47,7 @@ abbrev μ-loop : tie.MeasureT-loop
 μ-loop numbers out₀ row pen₀ n₀ i₀ out pen n i = length numbers - n
 
 -- what a turn over the pieces looks at
-module _ (c : tie.After-width Inv-loop3 μ-loop3 Inv-loop2 μ-loop2 Inv-loop μ-loop) where
+module _ (c : tie.After-struct-known Inv-loop3 μ-loop3 Inv-loop2 μ-loop2 Inv-loop μ-loop) where
   abbrev row : Row
   row = c .before .before .before .before .before .before .before .args .t1
 
@@ -63,22 +57,28 @@ module _ (c : tie.After-width Inv-loop3 μ-loop3 Inv-loop2 μ-loop2 Inv-loop μ-
   abbrev lent : List ℕ
   lent = now (c .before .before .before .before .before .before .before .args .out)
 
-  abbrev field : Field
-  field = getD (row .slots) (c .before .before .before .loop2 .i) first .0
+  abbrev piece : Piece
+  piece = getD (row .pieces) (c .before .before .before .loop2 .i) blank
 
-  abbrev left : List Field
+  abbrev left : List Piece
   left = leftOf row (c .before .before .before .loop2 .i + 1)
 
   abbrev w : ℕ
-  w = c .width .result
+  w = piece .1
+
+  wide : w ≡ widthOf (piece .0)
+  wide = wide-at (c .before .before .before .before .before .before .before .pre .0) _ (c .before .before .loop2-test .taken)
+
+  narrow : (1 ≤ w) × (w ≤ 15)
+  narrow = subst (λ (m : ℕ). (1 ≤ m) × (m ≤ 15)) (sym wide) (width-some (piece .0))
 
   roomy : Roomy (writeRow row list) (length lent)
   roomy = c .before .before .before .before .before .before .before .pre .1
 
 -- what is known where a number is due: it is there, and it is taken
 module _ (c : tie.In-loop3 Inv-loop3 μ-loop3 Inv-loop2 μ-loop2 Inv-loop μ-loop) where
-  due : Run (Inked (c .before .loop3 .pen) (c .before .loop3 .out)) (row (c .before .before)) (list (c .before .before)) (c .before .loop3 .n) (field (c .before .before) ∷ left (c .before .before))
-  due = numbers-open (c .before .loop3 .inv .0) (c .loop3-test .taken)
+  due : Run (Inked (c .before .loop3 .pen) (c .before .loop3 .out)) (row (c .before .before)) (list (c .before .before)) (c .before .loop3 .n) (piece (c .before .before) ∷ left (c .before .before))
+  due = fields-open (c .before .loop3 .inv .0) (c .loop3-test .taken)
 
   there : c .before .loop3 .n < length (list (c .before .before))
   there = roomy-there (roomy (c .before .before)) (due .laid)
@@ -86,27 +86,30 @@ module _ (c : tie.In-loop3 Inv-loop3 μ-loop3 Inv-loop2 μ-loop2 Inv-loop μ-loo
   abbrev v : ℕ
   v = getD (list (c .before .before)) (c .before .loop3 .n) 0
 
-  good : fits (field (c .before .before)) v ≡ true
+  good : fits (piece (c .before .before) .0) v ≡ true
   good = roomy-good (roomy (c .before .before)) (due .laid)
 
-  next : {more : Bool} → more ≡ goesOn (field (c .before .before)) v
-      → Laid (row (c .before .before)) (list (c .before .before)) (due .bs ++ digits 2 (w (c .before .before)) v) (c .before .loop3 .n + 1) (onward (field (c .before .before)) (left (c .before .before)) more)
-  next e = laid-on (due .laid) there v refl (w (c .before .before)) (c .before .before .width .ensures) good e
+  next : {more : Bool} → more ≡ goesOn (piece (c .before .before) .2) v
+      → Laid (row (c .before .before)) (list (c .before .before)) (due .bs ++ digits 2 (w (c .before .before)) v) (c .before .loop3 .n + 1) (onward (piece (c .before .before)) (left (c .before .before)) more)
+  next e = laid-on (due .laid) there v refl (w (c .before .before)) (wide (c .before .before)) good e
 
 loop-holds : tie.Need-loop-holds Inv-loop3 μ-loop3 Inv-loop2 μ-loop2 Inv-loop μ-loop
 loop-holds c = (record { known = record { bs = []; also = inked-begins _; laid = laid-begins _ _ }; there = omega arith }, frame-begins _ 0)
 
 loop2-holds : tie.Need-loop2-holds Inv-loop3 μ-loop3 Inv-loop2 μ-loop2 Inv-loop μ-loop
-loop2-holds c = (slots-begin _ (c .loop .inv .0), frame-begins _ _)
+loop2-holds c = (pieces-begin _ (c .loop .inv .0), frame-begins _ _)
 
-element-copy-out-slot : tie.Need-element-copy-out-slot Inv-loop3 μ-loop3 Inv-loop2 μ-loop2 Inv-loop μ-loop
-element-copy-out-slot c = search needs
+mul-piece : tie.Need-mul-piece Inv-loop3 μ-loop3 Inv-loop2 μ-loop2 Inv-loop μ-loop
+mul-piece c = search needs
 
-width-requires : tie.Need-width-requires Inv-loop3 μ-loop3 Inv-loop2 μ-loop2 Inv-loop μ-loop
-width-requires c κs = search needs
+element-copy-out-piece : tie.Need-element-copy-out-piece Inv-loop3 μ-loop3 Inv-loop2 μ-loop2 Inv-loop μ-loop
+element-copy-out-piece c = search needs
+
+cast-w : tie.Need-cast-w Inv-loop3 μ-loop3 Inv-loop2 μ-loop2 Inv-loop μ-loop
+cast-w c = search needs
 
 loop3-holds : tie.Need-loop3-holds Inv-loop3 μ-loop3 Inv-loop2 μ-loop2 Inv-loop μ-loop
-loop3-holds c = (numbers-begin first (c .before .before .before .before .before .before .before .pre .0) (c .before .before .loop2-test .taken) (c .before .before .before .loop2 .inv .0), frame-begins _ _)
+loop3-holds c = (fields-begin (c .before .before .before .before .before .before .before .pre .0) (c .before .before .loop2-test .taken) (c .before .before .before .loop2 .inv .0), frame-begins _ _)
 
 mul-value-of : tie.Need-mul-value-of Inv-loop3 μ-loop3 Inv-loop2 μ-loop2 Inv-loop μ-loop
 mul-value-of c = omega (arith, there c)
@@ -115,7 +118,7 @@ shared-slice-read-value-of : tie.Need-shared-slice-read-value-of Inv-loop3 μ-lo
 shared-slice-read-value-of c = there (c .before)
 
 value-of-requires : tie.Need-value-of-requires Inv-loop3 μ-loop3 Inv-loop2 μ-loop2 Inv-loop μ-loop
-value-of-requires c κs = fits-lt (field (c .before .before .before)) (v (c .before)) (good (c .before))
+value-of-requires c κs = fits-lt (piece (c .before .before .before)) (v (c .before)) (good (c .before))
 
 number-of-requires : tie.Need-number-of-requires Inv-loop3 μ-loop3 Inv-loop2 μ-loop2 Inv-loop μ-loop
 number-of-requires c κs = search needs
@@ -125,17 +128,17 @@ module _ (c : tie.After-number-of Inv-loop3 μ-loop3 Inv-loop2 μ-loop2 Inv-loop
   abbrev turn : tie.In-loop3 Inv-loop3 μ-loop3 Inv-loop2 μ-loop2 Inv-loop μ-loop
   turn = c .before .before .before
 
-  abbrev t : tie.After-width Inv-loop3 μ-loop3 Inv-loop2 μ-loop2 Inv-loop μ-loop
+  abbrev t : tie.After-struct-known Inv-loop3 μ-loop3 Inv-loop2 μ-loop2 Inv-loop μ-loop
   t = c .before .before .before .before .before
 
   number : c .number-of .result ≡ v turn
-  number = c .number-of .ensures ∙ ap asNumber (c .before .value-of .ensures) ∙ number-value (field t) (v turn)
+  number = c .number-of .ensures ∙ ap asNumber (c .before .value-of .ensures) ∙ number-value (piece t .0) (v turn)
 
   room : PenFits (turn .before .loop3 .pen) (w t) (c .number-of .result) (turn .before .loop3 .out)
   room = record {
     pen = due turn .also .ok;
-    width = subst (λ (m : ℕ). m ≤ 15) (sym (t .width .ensures)) (width-some (field t) .1);
-    value = subst (λ (x : ℕ). x < 2 ^ w t) (sym number) (subst (λ (m : ℕ). v turn < 2 ^ m) (sym (t .width .ensures)) (fits-lt (field t) (v turn) (good turn)));
+    width = subst (λ (m : ℕ). m ≤ 15) (sym (wide t)) (width-some (piece t .0) .1);
+    value = subst (λ (x : ℕ). x < 2 ^ w t) (sym number) (subst (λ (m : ℕ). v turn < 2 ^ m) (sym (wide t)) (fits-lt (piece t) (v turn) (good turn)));
     room =
         omega (
           arith,
@@ -167,8 +170,8 @@ loop3-again c =
     let k = due (turn m) in
     let f = turn m .before .loop3 in
     let put = c .before .before .before .put-field in (
-      numbers-on (f .inv .0) (omega arith)
-          (record { bs = _; also = subst (λ (x : ℕ). Inked (put .result) (put .last .0) (k .bs ++ digits 2 (w (t m)) x)) (number m) (inked-on (room m) (put .ensures) (k .also .wrote)); laid = next (turn m) (c .goes-on .ensures ∙ ap (goesOn (field (t m))) (number m)) }),
+      fields-on (f .inv .0) (omega arith)
+          (record { bs = _; also = subst (λ (x : ℕ). Inked (put .result) (put .last .0) (k .bs ++ digits 2 (w (t m)) x)) (number m) (inked-on (room m) (put .ensures) (k .also .wrote)); laid = next (turn m) (c .goes-on .ensures ∙ ap (goesOn (piece (t m) .2)) (number m)) }),
       frame-then (f .inv .1) (frame-put (room m) (put .ensures)),
     )
 
@@ -182,12 +185,12 @@ loop2-again : tie.Need-loop2-again Inv-loop3 μ-loop3 Inv-loop2 μ-loop2 Inv-loo
 loop2-again c =
     let p = c .before .before .before .before .before .loop2 .inv in
     let f = c .before .loop3 .inv in
-    (slots-on (f .0) (p .0) (c .loop3-test .left), frame-then (p .1) (f .1))
+    (pieces-on (f .0) (p .0) (c .loop3-test .left), frame-then (p .1) (f .1))
 
 -- what is known where a record is closed
 module _ (c : tie.After-loop2 Inv-loop3 μ-loop3 Inv-loop2 μ-loop2 Inv-loop μ-loop) where
   over : Run (Inked (c .before .loop2 .pen) (c .before .loop2 .out)) (c .before .before .before .before .before .args .t1) (now (c .before .before .before .before .before .args .numbers)) (c .before .loop2 .n) []
-  over = slots-over (c .before .before .before .before .before .pre .0) (c .loop2-test .left) (c .before .loop2 .inv .0)
+  over = pieces-over (c .before .before .before .before .before .pre .0) (c .loop2-test .left) (c .before .loop2 .inv .0)
 
   kept-rest : Frame (now (c .before .before .before .before .before .args .out)) 0 (c .before .loop2 .out) (c .before .loop2 .pen .at)
   kept-rest = frame-then (c .before .before .loop .inv .1) (c .before .loop2 .inv .1)
@@ -222,8 +225,9 @@ put-spec =
     μ-loop
     loop-holds
     loop2-holds
-    element-copy-out-slot
-    width-requires
+    mul-piece
+    element-copy-out-piece
+    cast-w
     loop3-holds
     mul-value-of
     shared-slice-read-value-of

@@ -1,0 +1,160 @@
+// The listing of a pack: what stands in it as lines of text, or one line for a refusal.
+use pack::Head;
+use pack::Item;
+use pack::Name;
+use pack::Payload;
+use pack::Reading;
+use pack::Slot;
+use refusals::Answer;
+ghost use mathlib.Core.Path.{_≡_};
+ghost use Prim.Native.Nat.{_+_, _≤_};
+ghost use lib.ListN.{length, take};
+ghost use Rattle.lists.specs.Over.{Wrote};
+ghost use Rattle.pack.specs.Reading.{reading as Reading·reading, shown};
+ghost use Rattle.listing.specs.Text.{packLine, syncLine, numberLine, labelLine, payloadLine, refusedLine, listing};
+ghost use Rattle.listing.specs.Rows.{itemLine, rowLines, NameStands, ItemStands, RowsStand};
+
+// The line of the pack: its offset, the count of items and inner payloads, and whether a CRC stood there.
+fn put_pack(out: &mut [u8], at: usize, offset: u16, count: usize, crc: bool) -> usize
+    requires { ⌜ at + length (packLine offset count crc) ≤ length (now out) ⌝ }
+    ensures { λ r. ⌜ Wrote (now (out .entry)) at (packLine offset count crc) r (now (out .exit)) ⌝ }
+{
+    let offset_at = text::put_word(out, at, b"pack", b' ');
+    let count_at = text::put_signed(out, offset_at, offset, b' ');
+    let crc_at = text::put_decimal(out, count_at, count as u64, b' ');
+    if crc {
+        text::put_word(out, crc_at, b"good", b'\n')
+    } else {
+        text::put_word(out, crc_at, b"none", b'\n')
+    }
+}
+
+// The line of a Sync.
+fn put_sync(out: &mut [u8], at: usize, head: Head) -> usize
+    requires { ⌜ at + length (syncLine head) ≤ length (now out) ⌝ }
+    ensures { λ r. ⌜ Wrote (now (out .entry)) at (syncLine head) r (now (out .exit)) ⌝ }
+{
+    let start = head.start;
+    let offset = head.offset;
+    let duration = head.duration;
+    let inside = head.inside;
+    let start_at = text::put_word(out, at, b"sync", b' ');
+    let offset_at = text::put_decimal(out, start_at, start as u64, b' ');
+    let duration_at = text::put_signed(out, offset_at, offset, b' ');
+    let inside_at = text::put_decimal(out, duration_at, duration as u64, b' ');
+    text::put_decimal(out, inside_at, inside as u64, b'\n')
+}
+
+// The line of a payload that is known by its tag number.
+fn put_number(out: &mut [u8], at: usize, start: u32, tag: u32, len: u32) -> usize
+    requires { ⌜ at + length (numberLine start tag len) ≤ length (now out) ⌝ }
+    ensures { λ r. ⌜ Wrote (now (out .entry)) at (numberLine start tag len) r (now (out .exit)) ⌝ }
+{
+    let start_at = text::put_word(out, at, b"number", b' ');
+    let tag_at = text::put_decimal(out, start_at, start as u64, b' ');
+    let len_at = text::put_decimal(out, tag_at, tag as u64, b' ');
+    text::put_decimal(out, len_at, len as u64, b'\n')
+}
+
+// The line of a payload that is known by its label.
+fn put_label(out: &mut [u8], at: usize, start: u32, label: &[u8], len: u32) -> usize
+    requires { ⌜ at + length (labelLine start (now label) len) ≤ length (now out) ⌝ }
+    ensures { λ r. ⌜ Wrote (now (out .entry)) at (labelLine start (now (label .entry)) len) r (now (out .exit)) ⌝ }
+{
+    let start_at = text::put_word(out, at, b"label", b' ');
+    let label_at = text::put_decimal(out, start_at, start as u64, b' ');
+    let len_at = text::put_hex(out, label_at, label, b' ');
+    text::put_decimal(out, len_at, len as u64, b'\n')
+}
+
+// The line of a refusal.
+fn put_refused(out: &mut [u8], at: usize, number: u32, place: usize) -> usize
+    requires { ⌜ at + length (refusedLine number place) ≤ length (now out) ⌝ }
+    ensures { λ r. ⌜ Wrote (now (out .entry)) at (refusedLine number place) r (now (out .exit)) ⌝ }
+{
+    let number_at = text::put_word(out, at, b"refused", b' ');
+    let place_at = text::put_decimal(out, number_at, number as u64, b' ');
+    text::put_decimal(out, place_at, place as u64, b'\n')
+}
+
+// The line of a payload. `places` says where the labels of the mappings stand in the pack.
+fn put_payload(out: &mut [u8], at: usize, pack: &[u8], places: [u32; 32], payload: Payload) -> usize
+    requires { ⌜ (at + length (payloadLine (now pack) places payload) ≤ length (now out)) × NameStands (now pack) places (payload .name) ⌝ }
+    ensures { λ r. ⌜ Wrote (now (out .entry)) at (payloadLine (now (pack .entry)) places payload) r (now (out .exit)) ⌝ }
+{
+    let name = payload.name;
+    let start = payload.start;
+    let len = payload.value_len;
+    match name {
+        Name::Label(i) => {
+            let from = places[i as usize] as usize;
+            let to = from + 16;
+            put_label(out, at, start, &pack[from..to], len)
+        }
+        Name::Number(tag) => put_number(out, at, start, tag, len),
+    }
+}
+
+// The line of a row.
+fn put_item(out: &mut [u8], at: usize, pack: &[u8], places: [u32; 32], item: Item) -> usize
+    requires { ⌜ (at + length (itemLine (now pack) places item) ≤ length (now out)) × ItemStands (now pack) places item ⌝ }
+    ensures { λ r. ⌜ Wrote (now (out .entry)) at (itemLine (now (pack .entry)) places item) r (now (out .exit)) ⌝ }
+{
+    match item {
+        Item::Single(payload) => put_payload(out, at, pack, places, payload),
+        Item::Sync(head) => put_sync(out, at, head),
+        Item::Inner(payload) => put_payload(out, at, pack, places, payload),
+    }
+}
+
+// The lines of the first `count` rows.
+fn put_rows(
+    out: &mut [u8],
+    at: usize,
+    pack: &[u8],
+    places: [u32; 32],
+    rows: [Slot; 64],
+    count: usize,
+) -> usize
+    requires { ⌜ (count ≤ 64) × (at + length (rowLines (now pack) places (take count rows)) ≤ length (now out)) × RowsStand (now pack) places (take count rows) ⌝ }
+    ensures { λ r. ⌜ Wrote (now (out .entry)) at (rowLines (now (pack .entry)) places (take count rows)) r (now (out .exit)) ⌝ }
+{
+    let mut next = at;
+    let mut i: usize = 0;
+    while i < count {
+        let row = rows[i];
+        let item = row.item;
+        next = put_item(out, next, pack, places, item);
+        i += 1;
+    }
+    next
+}
+
+// The listing of a pack whose reading is given.
+fn put_reading(out: &mut [u8], pack: &[u8], found: Reading) -> usize
+    requires { ⌜ (found ≡ shown (Reading·reading (now pack))) × (4096 ≤ length (now out)) ⌝ }
+    ensures { λ r. ⌜ Wrote (now (out .entry)) 0 (listing (now (pack .entry)) (Reading·reading (now (pack .entry)))) r (now (out .exit)) ⌝ }
+    ensures { λ r. ⌜ r ≤ 4096 ⌝ }
+{
+    let answer = found.answer;
+    let offset = found.offset;
+    let crc = found.crc;
+    let places = found.labels;
+    let rows = found.items;
+    match answer {
+        Answer::Done(count) => {
+            let next = put_pack(out, 0, offset, count, crc);
+            put_rows(out, next, pack, places, rows, count)
+        }
+        Answer::Refused { why, place } => put_refused(out, 0, refusals::number(why), place),
+    }
+}
+
+// Lists the pack: writes its listing at the start of `out` and answers how long it is. Whatever the bytes are, it fits.
+pub fn list(pack: &[u8], out: &mut [u8; 4096]) -> usize
+    ensures { λ r. ⌜ Wrote (now (out .entry)) 0 (listing (now (pack .entry)) (Reading·reading (now (pack .entry)))) r (now (out .exit)) ⌝ }
+    ensures { λ r. ⌜ r ≤ 4096 ⌝ }
+{
+    let found = reader::read(pack);
+    put_reading(out, pack, found)
+}

@@ -1,0 +1,4 @@
+pub mod Padded
+pub mod Growing
+pub mod Noting
+pub mod Naming

@@ -1,0 +1,138 @@
+// The plan pass: from marked rows, the writes and their size.
+ghost use mathlib.Core.Path.{_≡_};
+ghost use Prim.Native.Nat.{_+_, _≤_};
+ghost use lib.ListN.{take};
+ghost use Rattle.planning.specs.Planned.{tagOf, sized, stepOf, Plans, ItemSmall, RowsSmall, MarkFits, MarksFit};
+use naming::Mark;
+use naming::Marked;
+use pack::Item;
+use pack::Slot;
+use writing::Op;
+use writing::OpSlot;
+
+// What a row adds: its write, the bytes inside a Sync that is still to come, and its size.
+pub struct Step {
+    pub op: Op,
+    pub inner: u32,
+    pub size: u32,
+}
+
+// The writes in order, and how many bytes they make.
+pub struct Plan {
+    pub ops: [OpSlot; 64],
+    pub size: u32,
+}
+
+// The tag that a row is written with, 0 if it goes.
+fn tag_of(mark: Mark, index: [u32; 32]) -> u32
+    requires { ⌜ MarkFits mark ⌝ }
+    ensures { λ r. ⌜ r ≡ tagOf index mark ⌝ }
+{
+    match mark {
+        Mark::Gone => 0,
+        Mark::Number(t) => t,
+        Mark::Label(i) => index[i as usize],
+    }
+}
+
+fn element_size(tag: u32, len: u32) -> u32
+    requires { ⌜ len ≤ 32768 ⌝ }
+    ensures { λ r. ⌜ (r ≡ sized tag len) × (r ≤ 40000) ⌝ }
+{
+    (numbers::tag_size(tag) + numbers::length_size(len)) as u32 + len
+}
+
+// The step of a row with its tag, before `inner` bytes of payloads inside the same Sync.
+fn plan_row(item: Item, tag: u32, inner: u32) -> Step
+    requires { ⌜ ItemSmall item × (inner ≤ 3000000) ⌝ }
+    ensures { λ r. ⌜ (r ≡ stepOf item tag inner) × (r .size ≤ 40000) × (r .inner ≤ inner + r .size) ⌝ }
+{
+    match item {
+        Item::Single(x) => {
+            if tag == 0 {
+                return Step {
+                    op: Op::Skip,
+                    inner: 0,
+                    size: 0,
+                };
+            }
+            let n = element_size(tag, x.value_len);
+            let op = Op::Put {
+                tag,
+                start: x.value_start,
+                len: x.value_len,
+            };
+            Step {
+                op,
+                inner: 0,
+                size: n,
+            }
+        }
+        Item::Inner(x) => {
+            if tag == 0 {
+                return Step {
+                    op: Op::Skip,
+                    inner,
+                    size: 0,
+                };
+            }
+            let n = element_size(tag, x.value_len);
+            let op = Op::Put {
+                tag,
+                start: x.value_start,
+                len: x.value_len,
+            };
+            Step {
+                op,
+                inner: n + inner,
+                size: n,
+            }
+        }
+        Item::Sync(h) => {
+            if inner == 0 {
+                return Step {
+                    op: Op::Skip,
+                    inner: 0,
+                    size: 0,
+                };
+            }
+            let n = numbers::length_size(4 + inner) as u32;
+            let op = Op::Open {
+                size: inner,
+                offset: h.offset,
+                duration: h.duration,
+            };
+            Step {
+                op,
+                inner: 0,
+                size: 1 + (n + 4),
+            }
+        }
+    }
+}
+
+// Plans the first `count` rows.
+pub fn plan_rows(items: [Slot; 64], marks: [Marked; 64], index: [u32; 32], count: usize) -> Plan
+    requires { ⌜ (count ≤ 64) × RowsSmall (take count items) × MarksFit marks ⌝ }
+    ensures { λ r. ⌜ Plans index (take count items) marks r ⌝ }
+{
+    let none = OpSlot { op: Op::Skip };
+    let mut ops = [none; 64];
+    let mut inner: u32 = 0;
+    let mut size: u32 = 0;
+    let mut i = count;
+    while i > 0 {
+        i -= 1;
+        let slot = items[i];
+        let item = slot.item;
+        let marked = marks[i];
+        let mark = marked.mark;
+        let tag = tag_of(mark, index);
+        let step = plan_row(item, tag, inner);
+        let op = step.op;
+        ops[i] = OpSlot { op };
+        inner = step.inner;
+        size += step.size;
+    }
+    Plan { ops, size }
+}

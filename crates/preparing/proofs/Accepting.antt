@@ -1,0 +1,109 @@
+-- What each pass asks of an accepted pack, as the struct `Reading` shows it, and what the passes prepare.
+-- Assumes nothing.
+use mathlib.Core.Path.{_≡_, sym, ap, ap₂, subst, _∙_}
+use mathlib.Core.List.{List, map}
+use mathlib.Core.Bool.{Bool, false}
+use Prim.Native.Nat.{ℕ, _+_, _-_, _<_, _≤_}
+use native.Mathlib.Omega.{arith}
+use lib.ListN.{length, take}
+use Rattle.lists.specs.Digits.{Bytes}
+use Rattle.refusals.specs.Outcomes.{fine}
+use Rattle.pack.specs.declared.Slot.{Slot}
+use Rattle.pack.specs.declared.Reading.{Reading}
+use Rattle.pack.specs.Fixed.{itemCap, mappingCap}
+use Rattle.pack.specs.Config.{Mapping}
+use Rattle.pack.specs.Reading.{Read, reading, shown, slots, blank, padded}
+use Rattle.pack.specs.Meaning.{meant}
+use Rattle.kept.specs.Sheet.{Sheet}
+use Rattle.kept.specs.Kept.{kept}
+use Rattle.naming.specs.declared.Mark.{Mark}
+use Rattle.naming.specs.declared.Names.{Names}
+use Rattle.naming.specs.Marks.{flagsOf, marksOf, marked, Noted, RowsFit, PlacesFit}
+use Rattle.naming.specs.Given.{given, byIndex, EachBelow}
+use Rattle.framing.specs.Laid.{configSize}
+use Rattle.planning.specs.declared.Plan.{Plan}
+use Rattle.planning.specs.Planned.{Plans, RowsSmall, MarksFit}
+use Rattle.preparing.specs.declared.Prepared.{Prepared}
+use Rattle.preparing.specs.Ready.{Accepts, Ready}
+use Rattle.preparing.proofs.Shown.{slots-count, take-padded, places-fit, rows-fit, rows-small, places, places-count}
+use Rattle.preparing.proofs.Preparing.{a, marks, order, marks-low, order-fits, few, few-labels, marks-fit, ready}
+
+module _ (s : List ℕ) (bytes : Bytes s) (shows : Reading) (count : ℕ) (g : Accepts s shows count) (sh : Sheet) where
+  abbrev r : Read
+  r = g .read
+
+  items-are : take count (shows .items) ≡ slots (r .body .parts)
+  unfolding shown
+  items-are =
+      ap (λ (x : Reading). take count (x .items)) (g .struct)
+      ∙ take-padded itemCap blank (slots (r .body .parts)) count (g .counted ∙ sym (slots-count (r .body .parts)))
+
+  mapped-is : shows .mapped ≡ length (r .mappings)
+  unfolding shown
+  mapped-is = ap (λ (x : Reading). x .mapped) (g .struct)
+
+  labels-are : shows .labels ≡ places s r (a s bytes r (g .is) sh)
+  unfolding shown
+  labels-are = ap (λ (x : Reading). x .labels) (g .struct)
+
+  offset-is : shows .offset ≡ r .offset
+  unfolding shown
+  offset-is = ap (λ (x : Reading). x .offset) (g .struct)
+
+  places-are : take (shows .mapped) (shows .labels) ≡ map (λ (m : Mapping). m .place) (r .mappings)
+  places-are =
+      ap₂ take mapped-is labels-are
+      ∙ take-padded mappingCap 0 (map (λ (m : Mapping). m .place) (r .mappings)) (length (r .mappings)) (sym (places-count s r (a s bytes r (g .is) sh)))
+
+  pub few-rows : count ≤ 64
+  few-rows = let c = (a s bytes r (g .is) sh) .count in let e = g .counted in omega arith
+
+  pub flags-ask : (shows .mapped ≤ 32) × PlacesFit s (take (shows .mapped) (shows .labels))
+  flags-ask =
+      let acc = a s bytes r (g .is) sh in
+      let m = acc .mapped in
+      let e = mapped-is in
+      (omega arith, rw places-are (places-fit s (r .mappings) (acc .labels)))
+
+  pub note-asks : RowsFit (take count (shows .items))
+  note-asks =
+      let acc = a s bytes r (g .is) sh in rw items-are (rows-fit s (length (r .mappings)) (acc .mapped) (acc .small) (r .body .parts) (acc .parts))
+
+  pub plan-asks : RowsSmall (take count (shows .items))
+  plan-asks =
+      let acc = a s bytes r (g .is) sh in rw items-are (rows-small s (length (r .mappings)) (acc .mapped) (acc .small) (r .body .parts) (acc .parts))
+
+  module _ (f : List Bool) (flagged : f ≡ padded mappingCap false (flagsOf sh s (take (shows .mapped) (shows .labels)))) (nm : Names)
+      (noted : Noted (marksOf f sh (take count (shows .items))) nm) where
+    noted-is : Noted (marks s bytes r (g .is) sh) nm
+    noted-is =
+        subst (λ (m : List Mark). Noted m nm)
+        (ap₂ (λ (x : List Bool) (y : List Slot). marksOf x sh y) (flagged ∙ ap (λ (p : List ℕ). padded mappingCap false (flagsOf sh s p)) places-are) items-are)
+        noted
+
+    pub labels-few : nm .labels ≤ 64
+    labels-few = let f = few s bytes r (g .is) sh in let e = noted-is .labels in omega arith
+
+    pub index-asks : EachBelow mappingCap (take (nm .labels) (nm .order))
+    index-asks =
+        let o = order s bytes r (g .is) sh in
+        rw (ap (take (nm .labels)) (noted-is .order) ∙ take-padded itemCap 0 o (nm .labels) (noted-is .labels)) (order-fits s bytes r (g .is) sh)
+
+    pub marks-ask : MarksFit (nm .marks)
+    marks-ask =
+        let ms = marks s bytes r (g .is) sh in
+        rw (noted-is .marks) (marks-fit _ ms (itemCap - length (map marked ms)) (few-labels s bytes r (g .is) sh) (marks-low s bytes r (g .is) sh))
+
+    pub prepared : (tags index : List ℕ) (pl : Plan) (size : ℕ) → tags ≡ padded itemCap 0 (given (nm .taken) 0 (nm .labels))
+        → index ≡ byIndex (take (nm .labels) (nm .order)) tags → Plans index (take count (shows .items)) (nm .marks) pl
+        → (size ≡ configSize (shows .offset) (nm .labels)) × (size < 2000) → (q : Read) → reading s ≡ fine q
+        → Ready (kept sh (meant s q)) s (shows .offset) (shows .labels)
+        (record { ops = pl .ops; order = nm .order; tags = tags; labels = nm .labels; size = size + pl .size + 6 })
+    prepared tags index pl size t i p z q e =
+        let same : r ≡ q = let x = g .is in cc in
+        let pr : Prepared = record { ops = pl .ops; order = nm .order; tags = tags; labels = nm .labels; size = size + pl .size + 6 } in
+        let done = ready s bytes r (g .is) sh nm noted-is tags index t i pl (subst (λ (x : List Slot). Plans index x (nm .marks) pl) items-are p) size
+        (z .0 ∙ ap (λ (o : ℕ). configSize o (nm .labels)) offset-is, z .1) in
+        subst (λ (x : Read). Ready (kept sh (meant s x)) s (shows .offset) (shows .labels) pr) same
+        (subst (λ (o : ℕ). Ready (kept sh (meant s r)) s o (shows .labels) pr) (sym offset-is)
+        (subst (λ (l : List ℕ). Ready (kept sh (meant s r)) s (r .offset) l pr) (sym labels-are) done))

@@ -1,0 +1,4 @@
+pub mod One
+mod Slots
+mod Listing
+mod Opening

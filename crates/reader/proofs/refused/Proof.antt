@@ -1,0 +1,16 @@
+-- `reader::refused` meets its contract: nothing is used.
+-- Assumes nothing.
+use Rattle.pack.specs.Reading.{shown}
+use borrow.Author.Needs.{needs}
+use Rattle.reader.proofs.refused.Statement.{statement}
+use Rattle.reader.proofs.refused.Tie as tie
+
+blanks-requires : tie.Need-blanks-requires
+blanks-requires c κs = search needs
+
+returns : tie.Need-returns
+unfolding shown
+returns c = rw (c .blanks .ensures)
+
+pub refused-spec : {M : Type 1} → statement M
+refused-spec = tie.close (tie.spec blanks-requires returns)

@@ -1,0 +1,303 @@
+// The reading of a pack, by value; and the stretches of the pack that it speaks of.
+ghost use mathlib.Core.Path.{_≡_};
+ghost use Prim.Native.Nat.{_+_, _≤_};
+ghost use lib.ListN.{length, take, replicate};
+ghost use Rattle.refusals.specs.Outcomes.{Outcome, andThen};
+ghost use Rattle.pack.specs.Payloads.{payload};
+ghost use Rattle.pack.specs.Items.{itemsFrom};
+ghost use Rattle.pack.specs.Reading.{valueStart, openingAt, reading, blank, shown};
+ghost use Rattle.pack.specs.Meaning.{stretchIn, valueOf, labelAt};
+ghost use Rattle.config.specs.Tables.{Filled, Knows, Empty};
+ghost use Rattle.reader.specs.Shown.{headOf, shownBody, Opens};
+use config::First;
+use pack::Found;
+use pack::Head;
+use pack::Item;
+use pack::Name;
+use pack::Payload;
+use pack::Reading;
+use pack::Slot;
+use pack::Step;
+use refusals::Answer;
+use refusals::Refusal;
+
+// How a pack opens: its offset, how many mappings it has and where its items start, or the refusal.
+pub enum Opened {
+    From {
+        offset: u16,
+        mapped: usize,
+        next: usize,
+    },
+    Refused {
+        why: Refusal,
+        place: usize,
+    },
+}
+
+// The slots of a reading that has no items.
+fn blanks() -> [Slot; 64]
+    ensures { λ r. ⌜ r ≡ replicate 64 blank ⌝ }
+{
+    let x = Payload {
+        name: Name::Number(0),
+        start: 0,
+        value_start: 0,
+        value_len: 0,
+    };
+    let i = Item::Single(x);
+    let s = Slot { item: i };
+    [s; 64]
+}
+
+// The reading of a pack that is refused.
+fn refused(why: Refusal, place: usize) -> Reading
+    ensures { λ r. ⌜ r ≡ shown (Outcome.refused why place) ⌝ }
+{
+    let items = blanks();
+    let tags = [0u32; 32];
+    let labels = [0u32; 32];
+    Reading {
+        answer: Answer::Refused { why, place },
+        offset: 0,
+        crc: false,
+        mapped: 0,
+        tags,
+        labels,
+        items,
+    }
+}
+
+// A payload by the tables of the mappings.
+fn payload(
+    tags: &[u32; 32],
+    mapped: usize,
+    known: &[u8; 128],
+    tag: u32,
+    start: usize,
+    value_start: usize,
+    value_len: usize,
+) -> Payload
+    requires { ⌜ Filled mapped (now tags) × Knows (take mapped (now tags)) (now known) × (start + («value_start» + «value_len») ≤ 65536) ⌝ }
+    ensures { λ r. ⌜ r ≡ payload (take mapped (now (tags .entry))) start tag «value_start» «value_len» ⌝ }
+{
+    let name = config::name_by(tags, mapped, known, tag);
+    Payload {
+        name,
+        start: start as u32,
+        value_start: value_start as u32,
+        value_len: value_len as u32,
+    }
+}
+
+// A Sync, with so many payloads inside.
+fn head(s: &[u8], at: usize, value_start: usize, value_len: usize, inside: usize) -> Head
+    requires { ⌜ («value_start» + 4 ≤ length (now s)) × (at + («value_start» + «value_len») ≤ 65536) × (inside ≤ 64) ⌝ }
+    ensures { λ r. ⌜ r ≡ headOf (now (s .entry)) at «value_start» «value_len» inside ⌝ }
+{
+    Head {
+        start: at as u32,
+        value_start: value_start as u32,
+        value_len: value_len as u32,
+        offset: numbers::be16(s, value_start),
+        duration: numbers::be16(s, value_start + 2),
+        inside: inside as u32,
+    }
+}
+
+// The items of the pack from `from` on. One array holds them all; the inside of a Sync is handed to its reader as a part on its own. The blank is
+// made here, and each payload before its slot: what comes out of a call as a slot is stored piece by piece, which takes longer.
+fn read_items(
+    s: &[u8],
+    from: usize,
+    offset: u16,
+    mapped: usize,
+    tags: &[u32; 32],
+    places: &[u32; 32],
+    known: &[u8; 128],
+) -> Reading
+    requires { ⌜ (length (now s) ≤ 32768) × Filled mapped (now tags) × Knows (take mapped (now tags)) (now known) ⌝ }
+    ensures { λ r. ⌜ r ≡ shownBody offset mapped (now (tags .entry)) (now (places .entry)) (itemsFrom (length (now (s .entry))) (now (s .entry)) (take mapped (now (tags .entry))) from 0) ⌝ }
+{
+    let spare = Payload {
+        name: Name::Number(0),
+        start: 0,
+        value_start: 0,
+        value_len: 0,
+    };
+    let nothing = Item::Single(spare);
+    let blank = Slot { item: nothing };
+    let mut items = [blank; 64];
+    let mut crc = false;
+    let mut n: usize = 0;
+    let mut at = from;
+    while at < s.len() {
+        let step = pack::item_at(s, at, n);
+        match step {
+            Step::Bad(why) => {
+                return refused(why, at);
+            }
+            Step::Close { value_start } => {
+                if !checker::crc_good(s, value_start) {
+                    return refused(Refusal::Crc, at);
+                }
+                crc = true;
+                at = s.len();
+            }
+            Step::Plain {
+                tag,
+                value_start,
+                value_len,
+            } => {
+                let x = payload(tags, mapped, known, tag, at, value_start, value_len);
+                let i = Item::Single(x);
+                items[n] = Slot { item: i };
+                n += 1;
+                at = value_start + value_len;
+            }
+            Step::Open {
+                value_start,
+                value_len,
+            } => {
+                let base = value_start + 4;
+                let end = value_start + value_len;
+                let mut k = n + 1;
+                let mut j: usize = 0;
+                while j < end - base {
+                    let found = pack::inner_at(&s[base..end], j, k);
+                    match found {
+                        Found::Wrong(why) => {
+                            return refused(why, base + j);
+                        }
+                        Found::Whole {
+                            tag,
+                            value_start,
+                            value_len,
+                        } => {
+                            let x = payload(
+                                tags,
+                                mapped,
+                                known,
+                                tag,
+                                base + j,
+                                base + value_start,
+                                value_len,
+                            );
+                            let i = Item::Inner(x);
+                            items[k] = Slot { item: i };
+                            k += 1;
+                            j = value_start + value_len;
+                        }
+                    }
+                }
+                if k == n + 1 {
+                    return refused(Refusal::Sync, at);
+                }
+                let h = head(s, at, value_start, value_len, k - (n + 1));
+                let i = Item::Sync(h);
+                items[n] = Slot { item: i };
+                n = k;
+                at = end;
+            }
+        }
+    }
+    let tags = *tags;
+    let labels = *places;
+    Reading {
+        answer: Answer::Done(n),
+        offset,
+        crc,
+        mapped: mapped as u32,
+        tags,
+        labels,
+        items,
+    }
+}
+
+// How the pack opens. The mappings go into the three tables, which come empty.
+fn open(pack: &[u8], tags: &mut [u32; 32], places: &mut [u32; 32], known: &mut [u8; 128]) -> Opened
+    requires { ⌜ Empty (now tags) (now places) (now known) ⌝ }
+    ensures { λ r. ⌜ Opens (andThen (valueStart (now (pack .entry))) (openingAt (now (pack .entry)))) r (now (tags .exit)) (now (places .exit)) (now (known .exit)) ⌝ }
+{
+    let start = pack::value_start(pack);
+    match start {
+        Answer::Refused { why, place } => Opened::Refused { why, place },
+        Answer::Done(at) => {
+            let first = config::first_at(pack, at);
+            match first {
+                First::Other => Opened::From {
+                    offset: 0,
+                    mapped: 0,
+                    next: at,
+                },
+                First::Config {
+                    value_start,
+                    value_len,
+                } => {
+                    let maps = config::config(
+                        pack,
+                        at,
+                        value_start,
+                        value_len,
+                        tags,
+                        places,
+                        known,
+                    );
+                    match maps {
+                        Answer::Refused { why, place } => Opened::Refused { why, place },
+                        Answer::Done(mapped) => Opened::From {
+                            offset: numbers::be16(pack, value_start),
+                            mapped,
+                            next: value_start + value_len,
+                        },
+                    }
+                }
+            }
+        }
+    }
+}
+
+// The reading of a pack: its offset, its mappings, its items in order and whether a CRC stood there, or the refusal and its place.
+pub fn read(pack: &[u8]) -> Reading
+    ensures { λ r. ⌜ r ≡ shown (reading (now (pack .entry))) ⌝ }
+{
+    let mut tags = [0u32; 32];
+    let mut places = [0u32; 32];
+    let mut known = [0u8; 128];
+    let opened = open(pack, &mut tags, &mut places, &mut known);
+    match opened {
+        Opened::Refused { why, place } => refused(why, place),
+        Opened::From {
+            offset,
+            mapped,
+            next,
+        } => read_items(pack, next, offset, mapped, &tags, &places, &known),
+    }
+}
+
+// The stretch of so many bytes from `start` on: no bytes, if it does not lie in the pack.
+fn stretch(pack: &[u8], start: usize, len: usize) -> &[u8]
+    ensures { λ r. ⌜ now r ≡ stretchIn (now (pack .entry)) start len ⌝ }
+{
+    if pack.len() < start {
+        return &pack[0..0];
+    }
+    if pack.len() - start < len {
+        return &pack[0..0];
+    }
+    let end = start + len;
+    &pack[start..end]
+}
+
+// A payload's value: the very stretch of the pack that it was read from.
+pub fn value(pack: &[u8], x: Payload) -> &[u8]
+    ensures { λ r. ⌜ now r ≡ valueOf (now (pack .entry)) x ⌝ }
+{
+    stretch(pack, x.value_start as usize, x.value_len as usize)
+}
+
+// The label of a mapping, by its place in the pack.
+pub fn label(pack: &[u8], place: u32) -> &[u8]
+    ensures { λ r. ⌜ now r ≡ labelAt (now (pack .entry)) place ⌝ }
+{
+    stretch(pack, place as usize, 16)
+}

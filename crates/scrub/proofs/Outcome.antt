@@ -1,0 +1,141 @@
+-- How a scrub comes out: a refusal of the sheet, of the pack, NOROOM, or the written pack.
+-- Assumes nothing.
+use mathlib.Core.Path.{_≡_, refl, sym, ap, ap₂, _∙_}
+use mathlib.Core.List.{List, _++_}
+use mathlib.Core.Bool.{true, false}
+use mathlib.Core.Logic.{_⊎_}
+use Prim.Native.Nat.{ℕ, _+_, _-_, _<_, _≤_}
+use native.Mathlib.Omega.{arith}
+use lib.ListN.{length, take, replicate}
+use Rattle.lists.proofs.Cases.{absurd-eq}
+use Rattle.refusals.specs.declared.Refusal.{Refusal}
+use Rattle.refusals.specs.declared.Refusal.the-variants as R
+use Rattle.refusals.specs.declared.Answer.the-variants as A
+use Rattle.refusals.specs.Outcomes.{Outcome, fine, refused, andThen, answered}
+use Rattle.numbers.specs.Lengths.{lengthBytes}
+use Rattle.pack.specs.declared.Reading.{Reading}
+use Rattle.pack.specs.Items.{countOf}
+use Rattle.pack.specs.Fixed.{packCap}
+use Rattle.pack.specs.Reading.{Read, reading, shown}
+use Rattle.pack.specs.Meaning.{meant}
+use Rattle.pack.specs.Said.{Said}
+use Rattle.kept.specs.Sheet.{Sheet, sheetOf}
+use Rattle.kept.specs.Kept.{kept}
+use Rattle.kept.specs.Written.{written}
+use Rattle.kept.specs.Scrubbed.{roomFor, scrubbed, leaves}
+use Rattle.kept.proofs.Sizes.{written-bytes, written-length}
+use Rattle.kept.proofs.Scrubbing.{scrub-is, room-enough, room-short}
+use Rattle.sheet.specs.declared.Asked.{Asked}
+use Rattle.sheet.specs.declared.Asked.the-variants as K
+use Rattle.sheet.specs.Judged.{judged, asks, outcome}
+use Rattle.sheet.proofs.Header.{judged-outcome, judged-holds}
+use Rattle.framing.specs.Laid.{contentAt, framed, sealed, Packed, Packs}
+use Rattle.preparing.specs.declared.Prepared.{Prepared}
+use Rattle.preparing.specs.Ready.{Accepts, Ready}
+use Rattle.scrub.specs.Scrubs.{Scrubs, isRefused, Good}
+
+-- THE SHEET
+
+refused-outcome : (s : List ℕ) (x : Asked) → isRefused x ≡ true → outcome s x ≡ refused R.Sheet 0
+refused-outcome s K.All e = absurd-eq (cc)
+refused-outcome s (K.These l t) e = absurd-eq (cc)
+refused-outcome s K.Refused e = refl
+
+fine-outcome : (s : List ℕ) (x : Asked) → isRefused x ≡ false → outcome s x ≡ fine (asks s x)
+fine-outcome s K.All e = refl
+fine-outcome s (K.These l t) e = refl
+fine-outcome s K.Refused e = absurd-eq (cc)
+
+pub good-sheet : (sheet : List ℕ) (x : Asked) → x ≡ judged sheet → isRefused x ≡ false → Good sheet x
+good-sheet sheet x e h = record {
+  is = sym (judged-outcome sheet) ∙ ap (outcome sheet) (sym e) ∙ fine-outcome sheet x h;
+  holds = rw e (judged-holds sheet);
+}
+
+pub sheet-refused : (sheet s before : List ℕ) (x : Asked) → x ≡ judged sheet → isRefused x ≡ true → Scrubs sheet s before (A.Refused R.Sheet 0) before
+unfolding scrubbed andThen answered leaves
+sheet-refused sheet s before x e h =
+    let z : sheetOf sheet ≡ refused R.Sheet 0 = sym (judged-outcome sheet) ∙ ap (outcome sheet) (sym e) ∙ refused-outcome sheet x h in
+    record { answer = rw z; buffer = rw z }
+
+-- THE PACK
+
+shown-answer : (o : Outcome Read) → (shown o) .answer ≡ answered (λ (r : Read). countOf (r .body .parts)) o
+unfolding shown answered
+shown-answer (fine r) = refl
+shown-answer (refused why place) = refl
+
+answer-refused : (o : Outcome Read) (why : Refusal) (place : ℕ) → answered (λ (r : Read). countOf (r .body .parts)) o ≡ A.Refused why place → o ≡ refused why place
+unfolding answered
+answer-refused (fine r) why place e = absurd-eq (cc)
+answer-refused (refused w p) why place e = let a : w ≡ why = cc in let b : p ≡ place = cc in ap₂ refused a b
+
+answer-done : (o : Outcome Read) (n : ℕ) → answered (λ (r : Read). countOf (r .body .parts)) o ≡ A.Done n → (r : Read) × (o ≡ fine r) × (n ≡ countOf (r .body .parts))
+unfolding answered
+answer-done (fine r) n e = (r, refl, cc)
+answer-done (refused w p) n e = absurd-eq (cc)
+
+pub pack-refused : (sheet s before : List ℕ) (x : Asked) (shows : Reading) (why : Refusal) (place : ℕ) → Good sheet x → shows ≡ shown (reading s)
+    → shows .answer ≡ A.Refused why place → Scrubs sheet s before (A.Refused why place) before
+unfolding scrubbed andThen answered leaves
+pack-refused sheet s before x shows why place g e h =
+    let z : reading s ≡ refused why place =
+    answer-refused (reading s) why place (sym (shown-answer (reading s)) ∙ ap (λ (r : Reading). r .answer) (sym e) ∙ h) in
+    record { answer = rw (g .is, z); buffer = rw (g .is, z) }
+
+pub pack-accepted : (s : List ℕ) (shows : Reading) (n : ℕ) → shows ≡ shown (reading s) → shows .answer ≡ A.Done n → Accepts s shows n
+pack-accepted s shows n e h =
+    let d = answer-done (reading s) n (sym (shown-answer (reading s)) ∙ ap (λ (r : Reading). r .answer) (sym e) ∙ h) in
+    record { read = d .0; is = d .1; struct = e ∙ ap shown (d .1); counted = d .2 }
+
+-- WRITING
+
+module _ (sheet s before : List ℕ) (x : Asked) (shows : Reading) (n : ℕ) (g : Good sheet x) (a : Accepts s shows n) (r : Prepared)
+    (made : (q : Read) → reading s ≡ fine q → Ready (kept (asks sheet x) (meant s q)) s (shows .offset) (shows .labels) r) where
+  abbrev what : Said
+  what = kept (asks sheet x) (meant s (a .read))
+
+  ready : Ready what s (shows .offset) (shows .labels) r
+  ready = made (a .read) (a .is)
+
+  pub size-small : r .size < 4000000
+  size-small = ready .small
+
+  room-is : scrubbed sheet s (length before) ≡ roomFor (length before) (written what)
+  room-is = scrub-is sheet s (asks sheet x) (a .read) (length before) (g .is) (a .is)
+
+  whole-is : 16 + length (lengthBytes (r .size)) + r .size ≡ length (written what)
+  whole-is = ap (λ (k : ℕ). 16 + length (lengthBytes k) + k) (ready .counted) ∙ sym (written-length what)
+
+  pub no-room : (length before < 16 + length (lengthBytes (r .size)) + r .size) ⊎ (packCap < 16 + length (lengthBytes (r .size)) + r .size)
+      → Scrubs sheet s before (A.Refused R.NoRoom 0) before
+  unfolding answered leaves
+  no-room h =
+      let z : scrubbed sheet s (length before) ≡ refused R.NoRoom 0 = room-is ∙ room-short (length before) (written what) (rw (← whole-is) h) in
+      record { answer = rw z; buffer = rw z }
+
+  pub packs : 16 + length (lengthBytes (r .size)) + r .size ≤ length before → Packs s (shows .offset) (shows .labels) (take (r .labels) (r .order)) (r .tags) (r .ops) (r .size) (length before)
+  packs h = record {
+    entries = ready .entries;
+    writes = ready .writes;
+    counted = ready .counted ∙ ap (λ (l : List ℕ). length l + 6) (sym (ready .content));
+    small = let z = ready .small in omega arith;
+    fits = h;
+  }
+
+  pub labels-few : r .labels ≤ 64
+  labels-few = ready .few
+
+  pub wrote : (k : ℕ) (after : List ℕ) → 16 + length (lengthBytes (r .size)) + r .size ≤ length before → 16 + length (lengthBytes (r .size)) + r .size ≤ packCap
+      → Packed before (sealed (framed (contentAt s (shows .offset) (shows .labels) (take (r .labels) (r .order)) (r .tags) (r .ops)))) k after
+      → Scrubs sheet s before (A.Done k) after
+  unfolding answered leaves
+  wrote k after fits cap p =
+      let e : sealed (framed (contentAt s (shows .offset) (shows .labels) (take (r .labels) (r .order)) (r .tags) (r .ops))) ≡ written what =
+      ap (λ (l : List ℕ). sealed (framed l)) (ready .content) ∙ sym (written-bytes what) in
+      let w = whole-is in
+      let z : scrubbed sheet s (length before) ≡ fine (written what) = room-is ∙ room-enough (length before) (written what) (omega arith) (omega arith) in
+      record {
+        answer = rw z (ap A.Done (p .size ∙ ap length e));
+        buffer = rw z (p .buffer ∙ ap (λ (l : List ℕ). l ++ replicate (length before - length l) 0) e);
+      }

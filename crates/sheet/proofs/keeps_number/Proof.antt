@@ -1,0 +1,50 @@
+-- `sheet::keeps_number` meets its contract. By cases on what the sheet asks for.
+-- Assumes nothing.
+use Prim.Native.Nat.{_-_}
+use native.Mathlib.Omega.{arith}
+use borrow.Author.Needs.{needs}
+use Rattle.sheet.proofs.Asking.{all-keeps, none-number, these-hold, these-number}
+use borrow.Author.Needs.{needs}
+use Rattle.sheet.proofs.keeps_number.Statement.{statement}
+use Rattle.sheet.proofs.keeps_number.Tie as tie
+
+enum-told : tie.Need-enum-told
+enum-told c = search needs
+
+enum-known-asked : tie.Need-enum-known-asked
+enum-known-asked c = search needs
+
+mul-has-number : tie.Need-mul-has-number
+mul-has-number c = let h = these-hold _ _ _ (c .before .asked .given .1) (c .before .before .before .before .pre) in omega arith
+
+add-has-number : tie.Need-add-has-number
+add-has-number c = let h = these-hold _ _ _ (c .before .asked .given .1) (c .before .before .before .before .pre) in omega arith
+
+has-number-requires : tie.Need-has-number-requires
+has-number-requires c κs = these-hold _ _ _ (c .before .asked .given .1) (c .before .before .before .before .pre)
+
+enum-told-2 : tie.Need-enum-told-2
+enum-told-2 c = search needs
+
+returns : tie.Need-returns
+returns c = all-keeps _ _ (c .enum-told .given .1)
+
+returns-2 : tie.Need-returns-2
+returns-2 c = these-number _ _ _ (c .before .before .asked .given .1) _ (c .has-number .ensures)
+
+returns-3 : tie.Need-returns-3
+returns-3 c = none-number _ _ (c .enum-told2 .given .1)
+
+pub keeps-number-spec : {M : Type 1} → statement M
+keeps-number-spec =
+    tie.close
+    (tie.spec
+    enum-told
+    enum-known-asked
+    mul-has-number
+    add-has-number
+    has-number-requires
+    enum-told-2
+    returns
+    returns-2
+    returns-3)

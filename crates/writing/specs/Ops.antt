@@ -1,0 +1,31 @@
+-- The writes of a scrub, one after the other, and their bytes.
+-- Assumes nothing.
+use mathlib.Core.List.{List, [], _∷_, _++_}
+use Prim.Native.Nat.{ℕ, _+_, _<_, _≤_, _^_}
+use lib.ListN.{length, take, drop}
+use Rattle.lists.specs.Digits.{digits}
+use Rattle.numbers.specs.Tags.{tagBytes}
+use Rattle.numbers.specs.Lengths.{lengthBytes}
+use Rattle.writing.specs.declared.Op.{Op}
+use Rattle.writing.specs.declared.Op.the-variants.{Skip, Put, Open}
+use Rattle.writing.specs.declared.OpSlot.{OpSlot}
+
+-- nothing; a payload whose value is a stretch of the pack s; a Sync up to its first payload, before n bytes of payloads
+unfoldable pub opBytes : List ℕ → Op → List ℕ
+opBytes s Skip = []
+opBytes s (Put t v l) = tagBytes t ++ (lengthBytes l ++ take l (drop v s))
+opBytes s (Open n o d) = tagBytes 2 ++ (lengthBytes (4 + n) ++ (digits 256 2 o ++ digits 256 2 d))
+
+unfoldable pub opsBytes : List ℕ → List OpSlot → List ℕ
+opsBytes s [] = []
+opsBytes s (x ∷ r) = opBytes s (x .op) ++ opsBytes s r
+
+-- a tag that can be written, a value that lies in the pack, a size that fits
+abbrev pub OpFits : List ℕ → Op → Type 0
+OpFits s Skip = Unit
+OpFits s (Put t v l) = (t < 128 ^ 4) × (v + l ≤ length s)
+OpFits s (Open n o d) = 4 + n < 2 ^ 32
+
+abbrev pub OpsFit : List ℕ → List OpSlot → Type 0
+OpsFit s [] = Unit
+OpsFit s (x ∷ r) = OpFits s (x .op) × OpsFit s r
