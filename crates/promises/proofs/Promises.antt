@@ -2,13 +2,17 @@
 -- cites. A pack, a sheet, a value and a lent buffer are lists of bytes; `Bytes s` says that each element of s is below 256. The definitions that
 -- the statements use stand in the specs/ folders, and the contract of each function says that it computes them.
 -- Assumes nothing.
-use mathlib.Core.Path.{_≡_}
-use mathlib.Core.Bool.{true}
+use mathlib.Core.Path.{_≡_, sym, ap, subst, _∙_}
+use mathlib.Core.Bool.{true, false}
 use mathlib.Core.List.{List, _++_}
-use Prim.Native.Nat.{ℕ, _+_, _<_, _≤_, _^_}
-use lib.ListN.{length, drop}
+use Prim.Native.Nat.{ℕ, _+_, _-_, _<_, _≤_, _^_}
+use lib.ListN.{length, take, drop, replicate}
 use Rattle.lists.specs.Digits.{Bytes, digits}
-use Rattle.refusals.specs.Outcomes.{fine}
+use Rattle.lists.specs.Over.{Wrote}
+use Rattle.lists.specs.Same.{among}
+use Rattle.refusals.specs.Outcomes.{fine, answered}
+use Rattle.refusals.specs.declared.Refusal.{Refusal}
+use Rattle.refusals.specs.declared.Answer.{Answer}
 use Rattle.refusals.specs.declared.Answer.the-variants as A
 use Rattle.numbers.specs.declared.TagRead.the-variants as T
 use Rattle.numbers.specs.declared.LengthRead.the-variants as L
@@ -16,11 +20,19 @@ use Rattle.numbers.specs.Tags.{tagAt, tagBytes}
 use Rattle.numbers.specs.Lengths.{longest, reach, lengthAt, formBytes, lengthBytes}
 use Rattle.numbers.proofs.Tags as tags
 use Rattle.numbers.proofs.Lengths as lengths
+use Rattle.bits.specs.Bits.{bits, fieldAt}
+use Rattle.bits.proofs.Bits as bit-laws
+use Rattle.bits.proofs.Fields as fields
 use Rattle.crc.specs.Crc.{crcOf}
 use Rattle.crc.proofs.Serial as serial
 use Rattle.pack.specs.Said.{SaidItem}
-use Rattle.pack.specs.Reading.{Read, reading}
-use Rattle.pack.specs.Meaning.{meant}
+use Rattle.pack.specs.Reading.{Read, reading, checked, shown}
+use Rattle.pack.specs.Meaning.{meant, valueOf, labelAt}
+use Rattle.pack.specs.declared.Payload.{Payload}
+use Rattle.pack.specs.declared.Reading.{Reading}
+use Rattle.reader.proofs.One as reader
+use Rattle.listing.specs.Text.{listing}
+use Rattle.listing.proofs.One as listings
 use Rattle.layout.specs.Layout.{Description}
 use Rattle.layout.specs.Well.{WellFormed}
 use Rattle.layout.proofs.Complete as complete
@@ -28,12 +40,21 @@ use Rattle.layout.proofs.Sound as sound
 use Rattle.lists.specs.Those.{those, Each}
 use Rattle.kept.specs.Sheet.{Sheet, sheetOf}
 use Rattle.kept.specs.Kept.{keptItems, kept}
-use Rattle.kept.specs.Placed.{Placed, placed, onSheet, namedBy}
-use Rattle.kept.specs.Scrubbed.{scrubbed, scrubAnswer, leaves, ReadsAs}
+use Rattle.kept.specs.Placed.{Placed, grouped, placed, onSheet, Holds, namedBy}
+use Rattle.kept.specs.Written.{free}
+use Rattle.kept.specs.Scrubbed.{leaves, ReadsAs}
 use Rattle.kept.proofs.Demand3 as demand
+use Rattle.scrub.specs.Scrubs.{Scrubs}
+use Rattle.scrub.proofs.One as scrubs
 use Rattle.pmd.specs.Reading as pmd
 use Rattle.pmd.specs.Writing.{writing}
+use Rattle.pmd.specs.Lent.{within, Delivered}
+use Rattle.pmd.specs.Gain.{levelOf}
+use Rattle.pmd.specs.declared.Level.{Level}
 use Rattle.pmd.proofs.RoundTrips as trips
+use Rattle.pmd.proofs.One as gains
+use Rattle.pmd_reading.proofs.One as pmd-reads
+use Rattle.pmd_writing.proofs.One as pmd-writes
 
 -- NUMBERS
 
@@ -54,6 +75,14 @@ length-back = lengths.form-back
 pub shortest-least : (n k : ℕ) → n < reach k → length (lengthBytes n) ≤ length (formBytes k n)
 shortest-least = lengths.shortest-least
 
+-- Bits of equally many bytes tell the bytes.
+pub bits-one : (s t : List ℕ) → length s ≡ length t → Bytes s → Bytes t → bits s ≡ bits t → s ≡ t
+bits-one = bit-laws.bits-one
+
+-- A field of w bits that stands after `at` bits is fetched as its number.
+pub field-back : (s p q : List ℕ) (at w v : ℕ) → bits s ≡ p ++ (digits 2 w v ++ q) → length p ≡ at → v < 2 ^ w → fieldAt s at w ≡ v
+field-back = fields.field-of
+
 -- The CRC of bytes followed by their CRC is 0.
 pub crc-residue : (s : List ℕ) → crcOf (s ++ digits 256 4 (crcOf s)) ≡ 0
 crc-residue = serial.crc-residue
@@ -69,23 +98,61 @@ reading-sound = sound.reading-sound
 pub reading-complete : (d : Description) → WellFormed d → complete.Complete d
 reading-complete = complete.reading-complete
 
+-- Two readings that meet the contract of `read` on the same bytes coincide, unused slots included; so do two answers of `check`, and the answer of
+-- `check` is the one in the reading. (Of `value`, `label` and `list` too.)
+pub reading-one : (s : List ℕ) (a b : Reading) → a ≡ shown (reading s) → b ≡ shown (reading s) → a ≡ b
+reading-one = reader.reading-one
+
+pub check-one : (s : List ℕ) (a b : Answer) → a ≡ checked s → b ≡ checked s → a ≡ b
+check-one = reader.check-one
+
+pub check-is-read : (s : List ℕ) → checked s ≡ shown (reading s) .answer
+check-is-read = reader.check-is-read
+
+pub value-one : (s : List ℕ) (x : Payload) (a b : List ℕ) → a ≡ valueOf s x → b ≡ valueOf s x → a ≡ b
+value-one = reader.value-one
+
+pub label-one : (s : List ℕ) (place : ℕ) (a b : List ℕ) → a ≡ labelAt s place → b ≡ labelAt s place → a ≡ b
+label-one = reader.label-one
+
+pub list-one : (pack out : List ℕ) {a b : ℕ} {us vs : List ℕ} → Wrote out 0 (listing pack (reading pack)) a us → Wrote out 0 (listing pack (reading pack)) b vs
+    → (a ≡ b) × (us ≡ vs)
+list-one = listings.list-one
+
 -- SCRUBBING A PACK
+-- `Scrubs sheet s before a after` is the contract of `scrub`: on these bytes of a sheet, this pack and a buffer that held `before`, it answers a and
+-- leaves `after` in the buffer.
 
--- Two accepted packs of the same pack offset and the same kept items, in order and in Syncs of the same two numbers, scrubbed by one sheet into
--- buffers of equal length, are answered the same; and where a pack is written the whole buffers are equal, whatever they held before.
-pub same-kept-same-buffer : (sheet s t : List ℕ) (sh : Sheet) (r q : Read) (before other : List ℕ)
-    → sheetOf sheet ≡ fine sh → reading s ≡ fine r → reading t ≡ fine q
-    → (meant s r) .offset ≡ (meant t q) .offset → keptItems sh ((meant s r) .items) ≡ keptItems sh ((meant t q) .items)
-    → length before ≡ length other
-    → (scrubAnswer sheet s (length before) ≡ scrubAnswer sheet t (length other))
-    × ((n : ℕ) → scrubAnswer sheet s (length before) ≡ A.Done n
-    → leaves before (scrubbed sheet s (length before)) ≡ leaves other (scrubbed sheet t (length other)))
-same-kept-same-buffer = demand.same-kept-same-buffer
+-- Two outcomes on the same sheet, pack and buffer coincide.
+pub scrub-one : (sheet s before : List ℕ) {a b : Answer} {us vs : List ℕ} → Scrubs sheet s before a us → Scrubs sheet s before b vs → (a ≡ b) × (us ≡ vs)
+scrub-one = scrubs.scrub-one
 
--- Reading the pack that a scrub wrote gives exactly the pack offset and the kept items of the pack that was scrubbed, and a good CRC.
-pub read-back : (sheet s b : List ℕ) (sh : Sheet) (r : Read) (room : ℕ) → Bytes s → sheetOf sheet ≡ fine sh → reading s ≡ fine r
-    → scrubbed sheet s room ≡ fine b → ReadsAs b (kept sh (meant s r))
-read-back = demand.read-back
+module _ (sheet s : List ℕ) (sh : Sheet) (r : Read) (named : sheetOf sheet ≡ fine sh) (accepted : reading s ≡ fine r) where
+  -- Two accepted packs of the same pack offset and the same kept items, in order and in Syncs of the same two numbers, scrubbed by one sheet into
+  -- buffers of equal length, are answered the same; and where a pack is written the whole buffers are equal, whatever they held before.
+  pub same-kept-same-buffer : (t : List ℕ) (q : Read) {before other us vs : List ℕ} {a b : Answer} → reading t ≡ fine q
+      → (meant s r) .offset ≡ (meant t q) .offset → keptItems sh ((meant s r) .items) ≡ keptItems sh ((meant t q) .items)
+      → length before ≡ length other → Scrubs sheet s before a us → Scrubs sheet t other b vs
+      → (a ≡ b) × ((n : ℕ) → a ≡ A.Done n → us ≡ vs)
+  same-kept-same-buffer t q {before} {other} also offsets items lengths x y =
+      let same = demand.same-kept-same-buffer sheet s t sh r q before other named accepted also offsets items lengths in
+      (x .answer ∙ same .0 ∙ sym (y .answer), λ n done. x .buffer ∙ same .1 n (sym (x .answer) ∙ done) ∙ sym (y .buffer))
+
+  -- Changing, adding or removing payloads that the sheet does not name, tag tables or length forms of an accepted pack changes nothing: two packs
+  -- that have, item by item, the same payloads that the sheet names are answered the same and leave the same in one buffer.
+  pub no-trace : (t : List ℕ) (q : Read) {before us vs : List ℕ} {a b : Answer} → reading t ≡ fine q
+      → (meant s r) .offset ≡ (meant t q) .offset → namedBy sh ((meant s r) .items) ≡ namedBy sh ((meant t q) .items)
+      → Scrubs sheet s before a us → Scrubs sheet t before b vs → (a ≡ b) × (us ≡ vs)
+  no-trace t q {before} also offsets items x y =
+      let same = demand.no-trace sheet s t sh r q (length before) named accepted also offsets items in
+      (x .answer ∙ ap (answered length) same ∙ sym (y .answer), x .buffer ∙ ap (leaves before) same ∙ sym (y .buffer))
+
+  -- Reading the pack that was written gives exactly the pack offset and the kept items of the pack that was scrubbed, and a good CRC.
+  pub read-back : {before after : List ℕ} {a : Answer} (n : ℕ) → Bytes s → Scrubs sheet s before a after → a ≡ A.Done n
+      → ReadsAs (take n after) (kept sh (meant s r))
+  read-back {before} n bytes x done =
+      subst (λ (b : List ℕ). ReadsAs (take n b) (kept sh (meant s r))) (sym (x .buffer))
+      (demand.read-back-buffer sheet s before sh r n bytes named accepted (sym (x .answer) ∙ done))
 
 -- Nothing is kept that the sheet does not name.
 pub kept-only : (sh : Sheet) (xs : List SaidItem) → Each (λ (p : Placed). onSheet sh p ≡ true) (placed (keptItems sh xs))
@@ -95,11 +162,23 @@ kept-only = demand.kept-only
 pub kept-whole : (sh : Sheet) (xs : List SaidItem) → placed (keptItems sh xs) ≡ those (onSheet sh) (placed xs)
 kept-whole = demand.kept-whole
 
--- Changing, adding or removing payloads that the sheet does not name, tag tables or length forms of an accepted pack changes no byte of what is written.
-pub no-trace : (sheet s t : List ℕ) (sh : Sheet) (r q : Read) (room : ℕ) → sheetOf sheet ≡ fine sh → reading s ≡ fine r → reading t ≡ fine q
-    → (meant s r) .offset ≡ (meant t q) .offset → namedBy sh ((meant s r) .items) ≡ namedBy sh ((meant t q) .items)
-    → scrubbed sheet s room ≡ scrubbed sheet t room
-no-trace = demand.no-trace
+-- And it stays in the item that it stood in: nothing is moved into another Sync or out of one, and no Sync is kept without a payload.
+pub kept-in-place : (sh : Sheet) (xs : List SaidItem) → (grouped (keptItems sh xs) ≡ namedBy sh xs) × Each Holds (keptItems sh xs)
+kept-in-place sh xs = (demand.kept-in-place sh xs, demand.kept-filled sh xs)
+
+-- The number that a label is mapped to is from 64 up, is not taken, and every smaller number from 64 up is taken.
+pub free-least : (taken : List ℕ) → (64 ≤ free taken) × (among (free taken) taken ≡ false) × ((m : ℕ) → 64 ≤ m → m < free taken → among m taken ≡ true)
+free-least = demand.free-least
+
+-- A refusal changes no byte of the buffer.
+pub refused-unchanged : (sheet s : List ℕ) {before after : List ℕ} {a : Answer} (why : Refusal) (place : ℕ) → Scrubs sheet s before a after
+    → a ≡ A.Refused why place → after ≡ before
+refused-unchanged sheet s {before} why place x given = x .buffer ∙ demand.refused-unchanged sheet s before why place (sym (x .answer) ∙ given)
+
+-- After a pack of n bytes the buffer holds 0 to its end.
+pub rest-cleared : (sheet s : List ℕ) {before after : List ℕ} {a : Answer} (n : ℕ) → Scrubs sheet s before a after
+    → a ≡ A.Done n → drop n after ≡ replicate (length before - n) 0
+rest-cleared sheet s {before} n x done = ap (drop n) (x .buffer) ∙ demand.rest-cleared sheet s before n (sym (x .answer) ∙ done)
 
 -- PMD VALUES
 
@@ -110,3 +189,18 @@ read-then-write = trips.read-then-write
 -- Reading the value that a list of fields was written as gives that list back, for every kind.
 pub write-then-read : (kind : ℕ) (s xs : List ℕ) → writing kind xs ≡ fine s → pmd.reading kind s ≡ fine xs
 write-then-read = trips.write-then-read
+
+-- Two outcomes of `pmd_read` on the same kind, value and numbers coincide, the numbers included; so do two of `pmd_write`, the buffer included, and
+-- two levels of a gain.
+pub pmd-read-one : (kind : ℕ) (value before us vs : List ℕ) (a b : Answer)
+    → Delivered (within (length before) (pmd.reading kind value)) before a us → Delivered (within (length before) (pmd.reading kind value)) before b vs
+    → (a ≡ b) × (us ≡ vs)
+pmd-read-one = pmd-reads.pmd-read-one
+
+pub pmd-write-one : (kind : ℕ) (numbers before us vs : List ℕ) (a b : Answer)
+    → Delivered (within (length before) (writing kind numbers)) before a us → Delivered (within (length before) (writing kind numbers)) before b vs
+    → (a ≡ b) × (us ≡ vs)
+pmd-write-one = pmd-writes.pmd-write-one
+
+pub gain-one : (g : ℕ) (a b : Level) → a ≡ levelOf g → b ≡ levelOf g → a ≡ b
+gain-one = gains.gain-one
