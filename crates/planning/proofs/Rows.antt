@@ -1,10 +1,12 @@
 -- One row: its tag and its step, by cases.
 -- Assumes nothing.
-use mathlib.Core.Path.{_≡_, subst}
+use mathlib.Core.Path.{_≡_, refl, ap, subst}
+use mathlib.Core.Bool.{Bool, true, false, cond}
 use mathlib.Core.List.{List}
 use Prim.Native.Nat.{ℕ, _+_, _<_, _≤_}
 use native.Mathlib.Omega.{arith}
 use lib.ListN.{length, getD}
+use lib.Dec.{eqb}
 use borrow.Author.Tests.{eq-eqb, ne-eqb}
 use Rattle.numbers.specs.Tags.{tagSize}
 use Rattle.numbers.specs.Lengths.{lengthBytes, shortest}
@@ -41,33 +43,49 @@ length-small n = let a = length-form (shortest n) n in let b = shortest-most n i
 pub size-is : (t l a b : ℕ) → a ≡ tagSize t → b ≡ length (lengthBytes l) → (a + b + l ≡ sized t l) × (a ≤ 4) × (b ≤ 5)
 size-is t l a b e f = let x = length-tag t in let y = tag-size-bounds t in let z = length-small l in (omega arith, omega arith, omega arith)
 
-module _ {it : Item} (t n : ℕ) where
-  pub single-goes : (x : Payload) → it ≡ I.Single x → t ≡ 0 → _≡_ {A = Step} (record { op = Skip; inner = 0; size = 0 }) (stepOf it t n)
+-- a payload outside a Sync
+module _ (x : Payload) (t : ℕ) where
+  pub payload-goes : t ≡ 0 → _≡_ {A = Step} (record { op = Skip; inner = 0; size = 0 }) (stepOf (I.Single x) t 0)
   unfolding stepOf
-  single-goes x e z = rw (e, eq-eqb t 0 z)
+  payload-goes z = rw (eq-eqb t 0 z)
 
-  pub inner-goes : (x : Payload) → it ≡ I.Inner x → t ≡ 0 → _≡_ {A = Step} (record { op = Skip; inner = n; size = 0 }) (stepOf it t n)
+  pub payload-stays : (m : ℕ) → (t ≡ 0 → ⊥) → m ≡ sized t (x .«value_len»)
+      → _≡_ {A = Step} (record { op = Put t (x .«value_start») (x .«value_len»); inner = 0; size = m }) (stepOf (I.Single x) t 0)
   unfolding stepOf
-  inner-goes x e z = rw (e, eq-eqb t 0 z)
+  payload-stays m z q = rw (ne-eqb t 0 z, q)
 
-  pub sync-goes : (x : Head) → it ≡ I.Sync x → n ≡ 0 → _≡_ {A = Step} (record { op = Skip; inner = 0; size = 0 }) (stepOf it t n)
+-- a Sync
+module _ (h : Head) (n : ℕ) where
+  pub sync-goes : n ≡ 0 → _≡_ {A = Step} (record { op = Skip; inner = 0; size = 0 }) (stepOf (I.Sync h) 0 n)
   unfolding stepOf
-  sync-goes x e z = rw (e, eq-eqb n 0 z)
+  sync-goes z = rw (eq-eqb n 0 z)
 
-  pub single-stays : (x : Payload) (m : ℕ) → it ≡ I.Single x → (t ≡ 0 → ⊥) → m ≡ sized t (x .«value_len»)
-      → _≡_ {A = Step} (record { op = Put t (x .«value_start») (x .«value_len»); inner = 0; size = m }) (stepOf it t n)
+  pub sync-stays : (m : ℕ) → (n ≡ 0 → ⊥) → m ≡ length (lengthBytes (4 + n))
+      → _≡_ {A = Step} (record { op = Open n (h .offset) (h .duration); inner = 0; size = 1 + (m + 4) }) (stepOf (I.Sync h) 0 n)
   unfolding stepOf
-  single-stays x m e z q = rw (e, ne-eqb t 0 z, q)
+  sync-stays m z q = rw (ne-eqb n 0 z, q)
 
-  pub inner-stays : (x : Payload) (m : ℕ) → it ≡ I.Inner x → (t ≡ 0 → ⊥) → m ≡ sized t (x .«value_len»)
-      → _≡_ {A = Step} (record { op = Put t (x .«value_start») (x .«value_len»); inner = m + n; size = m }) (stepOf it t n)
-  unfolding stepOf
-  inner-stays x m e z q = rw (e, ne-eqb t 0 z, q)
+-- a payload that goes adds nothing to the n bytes inside
+before-choice : (b : Bool) (q : Step) (n : ℕ) → let p : Step = cond b (record { op = Skip; inner = 0; size = 0 }) q in
+    _≡_ {A = Step} (record { op = p .op; inner = p .size + n; size = p .size })
+    (cond b (record { op = Skip; inner = n; size = 0 }) (record { op = q .op; inner = q .size + n; size = q .size }))
+before-choice true q n = ap (λ (k : ℕ). let p : Step = record { op = Skip; inner = k; size = 0 } in p) (omega arith)
+before-choice false q n = refl
 
-  pub sync-stays : (x : Head) (m : ℕ) → it ≡ I.Sync x → (n ≡ 0 → ⊥) → m ≡ length (lengthBytes (4 + n))
-      → _≡_ {A = Step} (record { op = Open n (x .offset) (x .duration); inner = 0; size = 1 + (m + 4) }) (stepOf it t n)
+-- a row, from the step of its payload or Sync
+module _ {it : Item} (t n : ℕ) (r : Step) where
+  pub single-row : (x : Payload) → it ≡ I.Single x → r ≡ stepOf (I.Single x) t 0 → r ≡ stepOf it t n
   unfolding stepOf
-  sync-stays x m e z q = rw (e, ne-eqb n 0 z, q)
+  single-row x e q = rw (e, q)
+
+  pub inner-row : (x : Payload) → it ≡ I.Inner x → r ≡ stepOf (I.Single x) t 0
+      → _≡_ {A = Step} (record { op = r .op; inner = r .size + n; size = r .size }) (stepOf it t n)
+  unfolding stepOf
+  inner-row x e q = rw (e, q) (before-choice (eqb t 0) _ n)
+
+  pub sync-row : (h : Head) → it ≡ I.Sync h → r ≡ stepOf (I.Sync h) 0 n → r ≡ stepOf it t n
+  unfolding stepOf
+  sync-row h e q = rw (e, q)
 
 pub single-small : {it : Item} (x : Payload) → it ≡ I.Single x → ItemSmall it → x .«value_len» ≤ 32768
 single-small x e f = subst ItemSmall e f

@@ -3,9 +3,12 @@ ghost use mathlib.Core.Path.{_≡_};
 ghost use Prim.Native.Nat.{_+_, _≤_};
 ghost use lib.ListN.{take};
 ghost use Rattle.planning.specs.Planned.{tagOf, sized, stepOf, Plans, ItemSmall, RowsSmall, MarkFits, MarksFit};
+ghost use Rattle.pack.specs.declared.Item.the-variants as I;
 use naming::Mark;
 use naming::Marked;
+use pack::Head;
 use pack::Item;
+use pack::Payload;
 use pack::Slot;
 use writing::Op;
 use writing::OpSlot;
@@ -42,72 +45,70 @@ fn element_size(tag: u32, len: u32) -> u32
     (numbers::tag_size(tag) + numbers::length_size(len)) as u32 + len
 }
 
+// The step of a payload outside a Sync, with its tag.
+fn plan_payload(x: Payload, tag: u32) -> Step
+    requires { ⌜ x .«value_len» ≤ 32768 ⌝ }
+    ensures { λ r. ⌜ (r ≡ stepOf (I.Single x) tag 0) × (r .size ≤ 40000) × (r .inner ≡ 0) ⌝ }
+{
+    if tag == 0 {
+        return Step {
+            op: Op::Skip,
+            inner: 0,
+            size: 0,
+        };
+    }
+    let size = element_size(tag, x.value_len);
+    let op = Op::Put {
+        tag,
+        start: x.value_start,
+        len: x.value_len,
+    };
+    Step { op, inner: 0, size }
+}
+
+// The step of a Sync, before `inner` bytes of payloads.
+fn plan_sync(h: Head, inner: u32) -> Step
+    requires { ⌜ inner ≤ 3000000 ⌝ }
+    ensures { λ r. ⌜ (r ≡ stepOf (I.Sync h) 0 inner) × (r .size ≤ 40000) × (r .inner ≡ 0) ⌝ }
+{
+    if inner == 0 {
+        return Step {
+            op: Op::Skip,
+            inner: 0,
+            size: 0,
+        };
+    }
+    let n = numbers::length_size(4 + inner) as u32;
+    let op = Op::Open {
+        size: inner,
+        offset: h.offset,
+        duration: h.duration,
+    };
+    Step {
+        op,
+        inner: 0,
+        size: 1 + (n + 4),
+    }
+}
+
 // The step of a row with its tag, before `inner` bytes of payloads inside the same Sync.
 fn plan_row(item: Item, tag: u32, inner: u32) -> Step
     requires { ⌜ ItemSmall item × (inner ≤ 3000000) ⌝ }
     ensures { λ r. ⌜ (r ≡ stepOf item tag inner) × (r .size ≤ 40000) × (r .inner ≤ inner + r .size) ⌝ }
 {
     match item {
-        Item::Single(x) => {
-            if tag == 0 {
-                return Step {
-                    op: Op::Skip,
-                    inner: 0,
-                    size: 0,
-                };
-            }
-            let n = element_size(tag, x.value_len);
-            let op = Op::Put {
-                tag,
-                start: x.value_start,
-                len: x.value_len,
-            };
-            Step {
-                op,
-                inner: 0,
-                size: n,
-            }
-        }
+        Item::Single(x) => plan_payload(x, tag),
         Item::Inner(x) => {
-            if tag == 0 {
-                return Step {
-                    op: Op::Skip,
-                    inner,
-                    size: 0,
-                };
-            }
-            let n = element_size(tag, x.value_len);
-            let op = Op::Put {
-                tag,
-                start: x.value_start,
-                len: x.value_len,
-            };
+            let step = plan_payload(x, tag);
+            let op = step.op;
+            let n = step.size;
             Step {
                 op,
                 inner: n + inner,
                 size: n,
             }
         }
-        Item::Sync(h) => {
-            if inner == 0 {
-                return Step {
-                    op: Op::Skip,
-                    inner: 0,
-                    size: 0,
-                };
-            }
-            let n = numbers::length_size(4 + inner) as u32;
-            let op = Op::Open {
-                size: inner,
-                offset: h.offset,
-                duration: h.duration,
-            };
-            Step {
-                op,
-                inner: 0,
-                size: 1 + (n + 4),
-            }
-        }
+        Item::Sync(h) => plan_sync(h, inner),
     }
 }
 
