@@ -1,65 +1,14 @@
 //! The bench examples, every refusal at its place, and the corners that were decided.
 
+mod common;
+
+use common::{config, hex, k, pack, pack_with_crc, payload, sync, LABEL_A, LABEL_B};
 use reference::crc::crc;
 use reference::numbers::{length_size, read_length, read_tag, tag_size, write_length, write_tag};
 use reference::numbers::{Fault, MAX_TAG};
 use reference::pack::KEY;
 use reference::{check, gain, listing, pmd_read, pmd_write, read, rows, scrub};
 use reference::{Gain, Item, Name, Reason, Refusal};
-
-const LABEL_A: &str = "060E2B340401010D0404020600000000";
-const LABEL_B: &str = "060E2B340401010D0404020700000000";
-
-fn hex(text: &str) -> Vec<u8> {
-    let digits: Vec<u8> = text.bytes().filter(|byte| *byte != b' ').collect();
-    let pair = |pair: &[u8]| u8::from_str_radix(std::str::from_utf8(pair).unwrap(), 16).unwrap();
-    digits.chunks(2).map(pair).collect()
-}
-
-/// The key followed by these bytes.
-fn k(text: &str) -> Vec<u8> {
-    [&KEY[..], &hex(text)].concat()
-}
-
-/// Tag, shortest length, value.
-fn payload(tag: u32, value: &[u8]) -> Vec<u8> {
-    let mut header = [0; 9];
-    let mut size = write_tag(&mut header, tag);
-    size += write_length(&mut header[size..], value.len() as u32);
-    [&header[..size], value].concat()
-}
-
-/// A pack with this value, without a CRC.
-fn pack(value: &[u8]) -> Vec<u8> {
-    let mut length = [0; 5];
-    let size = write_length(&mut length, value.len() as u32);
-    [&KEY[..], &length[..size], value].concat()
-}
-
-/// A pack with this value and a right CRC after it.
-fn pack_with_crc(value: &[u8]) -> Vec<u8> {
-    let mut pack = pack(&[value, &[3, 4, 0, 0, 0, 0]].concat());
-    let covered = pack.len() - 4;
-    let right = crc(&pack[..covered]).to_be_bytes();
-    pack[covered..].copy_from_slice(&right);
-    pack
-}
-
-/// A Config value: pack offset and mappings.
-fn config(offset: i16, mappings: &[(u32, &str)]) -> Vec<u8> {
-    let mut value = offset.to_be_bytes().to_vec();
-    for (tag, label) in mappings {
-        let mut bytes = [0; 4];
-        let size = write_tag(&mut bytes, *tag);
-        value.extend(&bytes[..size]);
-        value.extend(hex(label));
-    }
-    payload(1, &value)
-}
-
-fn sync(payloads: &[Vec<u8>]) -> Vec<u8> {
-    payload(2, &[vec![0, 1, 0, 2], payloads.concat()].concat())
-}
 
 fn sheet(labels: &[&str], numbers: &[u32]) -> Vec<u8> {
     let counts = [labels.len(), 8, numbers.len(), 8 + 16 * labels.len()];

@@ -11,6 +11,7 @@ use Rattle.lists.specs.Digits.{Bytes}
 use Rattle.lists.specs.Over.{Wrote}
 use Rattle.lists.specs.Those.{Each}
 use Rattle.lists.proofs.Cases.{lt-or-ge}
+use Rattle.lists.proofs.Over.{wrote-length}
 use Rattle.refusals.specs.Refusals.{numberOf}
 use Rattle.refusals.specs.Outcomes.{Outcome, fine, refused}
 use Rattle.numbers.specs.Big.{signed}
@@ -105,7 +106,9 @@ outcome-fits s b (refused why place) e = omega (arith, refused-short (numberOf w
 pub listing-fits : (s : List ℕ) → Bytes s → length (listing s (reading s)) ≤ 4096
 listing-fits s b = outcome-fits s b (reading s) refl
 
--- so what is written ends within it
-pub wrote-within : (s : List ℕ) → Bytes s → {out us : List ℕ} {n : ℕ} → Wrote out 0 (listing s (reading s)) n us
-    → Wrote out 0 (listing s (reading s)) n us × (n ≤ 4096)
-wrote-within s b p = (p, omega (arith, p .next, listing-fits s b))
+-- so what is written ends within a buffer of so many bytes
+pub wrote-within : (s : List ℕ) → Bytes s → {out us : List ℕ} {n : ℕ} → 4096 ≤ length out → Wrote out 0 (listing s (reading s)) n us
+    → Wrote out 0 (listing s (reading s)) n us × (n ≤ length us)
+wrote-within s b {out} h p =
+    let fits = listing-fits s b in
+    (p, omega (arith, p .next, wrote-length (omega arith) p))

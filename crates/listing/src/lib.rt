@@ -134,7 +134,7 @@ fn put_rows(
 fn put_reading(out: &mut [u8], pack: &[u8], found: Reading) -> usize
     requires { ⌜ (found ≡ shown (Reading·reading (now pack))) × (4096 ≤ length (now out)) ⌝ }
     ensures { λ r. ⌜ Wrote (now (out .entry)) 0 (listing (now (pack .entry)) (Reading·reading (now (pack .entry)))) r (now (out .exit)) ⌝ }
-    ensures { λ r. ⌜ r ≤ 4096 ⌝ }
+    ensures { λ r. ⌜ r ≤ length (now (out .exit)) ⌝ }
 {
     let answer = found.answer;
     let offset = found.offset;
@@ -153,7 +153,7 @@ fn put_reading(out: &mut [u8], pack: &[u8], found: Reading) -> usize
 // Lists the pack: writes its listing at the start of `out` and answers how long it is. Whatever the bytes are, it fits.
 pub fn list(pack: &[u8], out: &mut [u8; 4096]) -> usize
     ensures { λ r. ⌜ Wrote (now (out .entry)) 0 (listing (now (pack .entry)) (Reading·reading (now (pack .entry)))) r (now (out .exit)) ⌝ }
-    ensures { λ r. ⌜ r ≤ 4096 ⌝ }
+    ensures { λ r. ⌜ r ≤ length (now (out .exit)) ⌝ }
 {
     let found = reader::read(pack);
     put_reading(out, pack, found)

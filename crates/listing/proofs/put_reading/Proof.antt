@@ -96,7 +96,7 @@ returns : tie.Need-returns
 returns c =
     let k = c .before .before .before .before .before .before in
     let b = k .before .before .before .before .before .before .before in
-    wrote-within (b .before .before .args .pack .now) (bytes b) (writing-last (after-pack k) (c .before .before .put-rows .ensures))
+    wrote-within (b .before .before .args .pack .now) (bytes b) (b .before .before .pre .1) (writing-last (after-pack k) (c .before .before .put-rows .ensures))
 
 same-length-2 : tie.Need-same-length-2
 same-length-2 c = search needs
@@ -105,7 +105,7 @@ returns-2 : tie.Need-returns-2
 returns-2 c =
     let k = c .before .before .before in
     let b = k .before .before .before .before .before .before .before in
-    wrote-within (b .before .before .args .pack .now) (bytes b) (wrote-as (sym (line-is k)) (c .before .before .put-refused .ensures))
+    wrote-within (b .before .before .args .pack .now) (bytes b) (b .before .before .pre .1) (wrote-as (sym (line-is k)) (c .before .before .put-refused .ensures))
 
 pub put-reading-spec : {M : Type 1} → statement M
 put-reading-spec =
