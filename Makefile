@@ -1,14 +1,41 @@
-# make demo     build and run the number layer's vectors
-# make test     the gate, from nothing: the same as .ci/run
-# make check    prove what has changed and run the programs, quickly
-# make bench    CRC speed beside libavutil's
-# make clean    remove everything that was built
-.PHONY: demo test check bench clean
+# make demo       build and run the number layer's vectors
+# make lib        prove what C calls and build target/staticlib/libballastwren.a
+# make install    install archive, header and pkg-config file below PREFIX (default /usr/local), in DESTDIR if given
+# make uninstall  remove them again
+# make test       the gate, from nothing: the same as .ci/run
+# make check      prove what has changed and run the programs, quickly
+# make bench      CRC speed beside libavutil's
+# make clean      remove everything that was built
+.PHONY: demo lib install uninstall test check bench clean
+
+PREFIX ?= /usr/local
+DESTDIR ?=
+ARCHIVE ?= target/staticlib/libballastwren.a
+HEADER = include/ballastwren.h
+VERSION = $(shell sed -n 's/^.define BW_VERSION "\(.*\)"$$/\1/p' $(HEADER))
+INSTALLED = include/ballastwren.h lib/libballastwren.a lib/pkgconfig/ballastwren.pc
 
 demo:
 	rt check number_vectors
 	@echo
 	target/bin/number_vectors
+
+lib:
+	rt staticlib ballastwren
+
+# Anyone may run 'make install' after 'make lib', root without the Rattle kit too.
+$(ARCHIVE):
+	$(MAKE) lib
+
+install: $(ARCHIVE)
+	install -d '$(DESTDIR)$(PREFIX)/include' '$(DESTDIR)$(PREFIX)/lib/pkgconfig'
+	install -m 644 $(HEADER) '$(DESTDIR)$(PREFIX)/include'
+	install -m 644 '$(ARCHIVE)' '$(DESTDIR)$(PREFIX)/lib/libballastwren.a'
+	sed -e 's|@PREFIX@|$(PREFIX)|' -e 's|@VERSION@|$(VERSION)|' packaging/ballastwren.pc.in \
+		> '$(DESTDIR)$(PREFIX)/lib/pkgconfig/ballastwren.pc'
+
+uninstall:
+	for file in $(INSTALLED); do rm -f '$(DESTDIR)$(PREFIX)'/"$$file"; done
 
 test:
 	.ci/run
