@@ -1,0 +1,60 @@
+# Sourced by the scripts beside it, from the root of the tree: what compiles and runs programs that link the archive,
+# which packages they need, and the count of checks.
+#
+#   ARCHIVE  the archive under test         CC, CXX  compilers for x86-64
+#   RUN      what runs x86-64 programs; empty on an x86-64 machine
+#
+# Each may be set by the caller. The archive is for x86-64 alone: on another processor its programs are cross-compiled
+# and run under an emulator.
+
+: "${ARCHIVE:=$PWD/target/staticlib/libballastwren.a}"
+if [[ $(uname -m) == x86_64 ]]; then
+    : "${CC:=gcc}" "${CXX:=g++}" "${RUN=}"
+else
+    : "${CC:=x86_64-linux-gnu-gcc}" "${CXX:=x86_64-linux-gnu-g++}" "${RUN=qemu-x86_64 -L /usr/x86_64-linux-gnu}"
+fi
+export ARCHIVE CC CXX RUN
+
+# need COMMAND PACKAGE: installs a Debian package if its command is missing.
+need() {
+    command -v "$1" >/dev/null && return
+    local root=()
+    [[ $(id -u) == 0 ]] || root=(sudo)
+    echo "installing $2"
+    local install=("${root[@]}" env DEBIAN_FRONTEND=noninteractive apt-get install -qq -y --no-install-recommends "$2")
+    "${install[@]}" >/dev/null 2>&1 || { "${root[@]}" apt-get update -qq && "${install[@]}" >/dev/null; }
+    command -v "$1" >/dev/null && return
+    echo "$1 is missing and the Debian package $2 could not be installed: please install it by hand"
+    return 1
+}
+
+# need_toolchain: what compiles and runs programs over the archive, and the archive itself.
+need_toolchain() {
+    case $CC in
+    x86_64-linux-gnu-gcc) need "$CC" gcc-x86-64-linux-gnu && need "$CXX" g++-x86-64-linux-gnu ;;
+    *) need "$CC" gcc && need "$CXX" g++ ;;
+    esac || return
+    if [[ $RUN ]]; then need "${RUN%% *}" qemu-user || return; fi
+    [[ -f $ARCHIVE ]] || { echo "no archive at $ARCHIVE: make lib"; return 1; }
+}
+
+passed=0 failed=0
+
+# check NAME COMMAND...: one check, one line, and what the command printed if it failed.
+check() {
+    local name=$1 said
+    shift
+    if said=$("$@" 2>&1); then
+        echo "ok      $name"
+        passed=$((passed + 1))
+    else
+        printf 'FAILED  %s\n%s\n' "$name" "$said"
+        failed=$((failed + 1))
+    fi
+}
+
+# finish: the count as the last line, and the status.
+finish() {
+    echo "$passed passed, $failed failed"
+    [[ $failed -eq 0 ]]
+}
