@@ -1,6 +1,8 @@
-# make demo       build and run the number layer's vectors
+# make demo       scrub a pack that holds old names, from the proof to the report
 # make lib        prove what C calls and build target/staticlib/libballastwren.a
-# make install    install archive, header and pkg-config file below PREFIX (default /usr/local), in DESTDIR if given
+# make command    build the command target/tools/ballastwren over it
+# make install    install archive, header, pkg-config file, command, its manual page and completion below PREFIX
+#                 (default /usr/local), in DESTDIR if given
 # make uninstall  remove them again
 # make test       the gate, from nothing: the same as .ci/run
 # make check      prove what has changed and run the programs, quickly
@@ -16,9 +18,7 @@ VERSION = $(shell sed -n 's/^.define BW_VERSION "\(.*\)"$$/\1/p' $(HEADER))
 INSTALLED = include/ballastwren.h lib/libballastwren.a lib/pkgconfig/ballastwren.pc
 
 demo:
-	rt check number_vectors
-	@echo
-	target/bin/number_vectors
+	@samples/demo.sh
 
 lib:
 	rt staticlib ballastwren
@@ -48,3 +48,5 @@ bench:
 
 clean:
 	rm -rf target
+
+include tools/command.mk

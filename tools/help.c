@@ -1,0 +1,91 @@
+#include "help.h"
+
+const char help_all[] =
+    "ballastwren: SMPTE ST 2109 audio metadata packs and Dolby PMD values\n"
+    "\n"
+    "  ballastwren check PACK...                         say whether packs are good\n"
+    "  ballastwren list PACK                             list the items of a pack\n"
+    "  ballastwren scrub --sheet SHEET [--report] PACK OUT\n"
+    "                                                    write a new pack with what the keep sheet names\n"
+    "  ballastwren sheet make [TEXT [SHEET]]             make a keep sheet from text\n"
+    "  ballastwren sheet show SHEET                      show a keep sheet as text\n"
+    "  ballastwren pmd read [--numbers | --json] KIND VALUE\n"
+    "                                                    show the fields of a PMD value\n"
+    "  ballastwren pmd write [--numbers] KIND [FIELDS [VALUE]]\n"
+    "                                                    make a PMD value from its fields\n"
+    "  ballastwren pmd find [--numbers | --json] PACK    show the PMD values of a pack\n"
+    "  ballastwren --help, ballastwren --version\n"
+    "\n"
+    "Each subcommand has a --help of its own. '-' is standard input or standard output.\n"
+    "Exit status: 0 accepted; 1 refused, with one line on standard error; 2 wrong usage, or a file that\n"
+    "cannot be read or written.\n";
+
+const char help_check[] =
+    "ballastwren check PACK...\n"
+    "\n"
+    "Says of each pack how many items and inner payloads it has, or why it is refused: the refusal's name and\n"
+    "number, the byte at fault counted from the pack's first, and what the rule is.\n";
+
+const char help_list[] =
+    "ballastwren list PACK\n"
+    "\n"
+    "Lists a pack, one line each, just as the program 'list' does:\n"
+    "  pack OFFSET COUNT none|good          pack offset; items and inner payloads together; the CRC\n"
+    "  sync START OFFSET DURATION INSIDE    a Sync: where it starts, its two numbers, payloads inside\n"
+    "  number START TAG LENGTH              a payload known by its tag, and the bytes of its value\n"
+    "  label START LABEL LENGTH             a payload known by its label\n"
+    "  refused NUMBER PLACE                 instead of all that, for a pack that is refused\n";
+
+const char help_scrub[] =
+    "ballastwren scrub --sheet SHEET [--report] PACK OUT\n"
+    "\n"
+    "Writes to OUT a new pack that holds of PACK only what the keep sheet names, inside Syncs too.\n"
+    "OUT is written whole or not at all, and never over SHEET or PACK. An empty SHEET keeps all.\n"
+    "  --sheet SHEET   the keep sheet, as 'ballastwren sheet make' writes it\n"
+    "  --report        print what is in the written pack and what is proved of it, and nothing of what was\n"
+    "                  dropped; OUT must then be a regular file\n";
+
+const char help_sheet_make[] =
+    "ballastwren sheet make [TEXT [SHEET]]\n"
+    "\n"
+    "Makes the keep sheet SHEET from TEXT (both '-' if not given). A line of TEXT is one of\n"
+    "  label 060E2B34040101... keep payloads with this label of 32 hex digits; '.' may stand between bytes\n"
+    "  number 70               keep payloads with this tag, 4 to 268435455, if the pack maps it to no label\n"
+    "  keep all                keep everything; stands alone\n"
+    "  keep none               keep nothing; stands alone\n"
+    "Blank lines and what follows a '#' are skipped. At most 32 labels and 32 numbers, none twice.\n";
+
+const char help_sheet_show[] =
+    "ballastwren sheet show SHEET\n"
+    "\n"
+    "Shows a keep sheet as the text that 'ballastwren sheet make' reads.\n";
+
+const char help_pmd_read[] =
+    "ballastwren pmd read [--numbers | --json] KIND VALUE\n"
+    "\n"
+    "Shows the fields of a PMD value, one record to a line. KIND is APD, APN, AOD, XYZ, AEN or ESN, or 1 to 6.\n"
+    "  --numbers   the bare list of fields, closing zeros and bytes of names included\n"
+    "  --json      one JSON object\n";
+
+const char help_pmd_write[] =
+    "ballastwren pmd write [--numbers] KIND [FIELDS [VALUE]]\n"
+    "\n"
+    "Makes the PMD value VALUE from FIELDS (both '-' if not given), written as 'ballastwren pmd read' shows them:\n"
+    "  APD  presentation 1 speakers 5.1.4 language en elements 1 2\n"
+    "  APN  presentation 1 language en name \"Main mix\"\n"
+    "  AOD  element 2 class dialog dynamic no x 512 y 1023 z 1 size 0 size_3d no diverge no source 3 gain -0.5 dB\n"
+    "  XYZ  sample_time 1, and on the next lines element 2 x 1 y 512 z 1023\n"
+    "  AEN  element 2 name \"Commentary\"\n"
+    "  ESN  substream 1 name \"A\"\n"
+    "Speakers: 2.0 3.0 5.1 5.1.2 5.1.4 7.1.4 9.1.6 portable-speakers portable-headphone not-indicated.\n"
+    "Classes: dialog vds voiceover generic spoken-subtitle emergency-alert emergency-information.\n"
+    "A gain is 'muted' or -25.0 to +6.0 dB in halves. In a name \\\", \\\\ and \\xNN stand for bytes.\n"
+    "  --numbers   FIELDS is the bare list of numbers instead\n";
+
+const char help_pmd_find[] =
+    "ballastwren pmd find [--numbers | --json] PACK\n"
+    "\n"
+    "Shows the PMD payloads of a pack, found by their labels, inside Syncs too, with the fields of the kinds that\n"
+    "'ballastwren pmd read' knows. Exit status 1 if a value is refused.\n"
+    "  --numbers   bare lists of fields\n"
+    "  --json      one JSON array\n";

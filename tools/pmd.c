@@ -1,0 +1,72 @@
+/* pmd read [--numbers | --json] KIND VALUE, pmd write [--numbers] KIND [FIELDS [VALUE]] */
+#include "pmd.h"
+
+#include "commands.h"
+#include "exits.h"
+#include "files.h"
+#include "labels.h"
+#include "lines.h"
+#include "refusals.h"
+
+static void print_json(const struct kind *kind, const uint32_t *numbers, size_t count)
+{
+    printf("{\"kind\":%lu,\"name\":\"%s\",\"title\":\"%s\",", (unsigned long)kind->number, kind->name,
+           kind_title(kind->number));
+    print_json_members(stdout, kind, numbers, count);
+    puts("}");
+}
+
+int read_value(const struct options *options)
+{
+    static uint8_t bytes[BW_PMD_VALUE_MAX + 1];
+    static uint32_t numbers[BW_PMD_NUMBERS_MAX];
+    struct input value;
+    uint32_t number;
+    bw_answer answer;
+
+    if (!read_kind(options->operands[0], &number) || !read_input(options->operands[1], bytes, sizeof bytes, &value))
+        return TROUBLE;
+    answer = bw_pmd_read(number, value.bytes, value.length, numbers, BW_PMD_NUMBERS_MAX);
+    if (answer.number != BW_DONE)
+        return refuse(value.name, answer, answer.number == BW_KIND || answer.number == BW_BIG ? "byte" : "bit");
+    if (options->numbers)
+        print_numbers(stdout, "", numbers, (size_t)answer.value);
+    else if (options->json)
+        print_json(kind_of(number), numbers, (size_t)answer.value);
+    else
+        print_words(stdout, "", kind_of(number), numbers, (size_t)answer.value);
+    return ACCEPTED;
+}
+
+/* The archive counts numbers; whoever wrote the fields in words counts lines. */
+static int refuse_numbers(const char *name, bw_answer answer, const struct numbers *numbers, bool words)
+{
+    if (words && answer.number == BW_FIELD && answer.value < numbers->count)
+        return refuse_line(name, numbers->lines[answer.value], answer.number, refusal_sentence(answer.number));
+    return refuse(name, answer, "number");
+}
+
+int write_value(const struct options *options)
+{
+    static uint8_t text[TEXT_MAX + 1], value[BW_PMD_VALUE_MAX];
+    static uint32_t list[TEXT_MAX + 1], lines[TEXT_MAX + 1];
+    struct numbers numbers = {list, lines, 0};
+    struct input input;
+    uint32_t number;
+    bw_answer answer;
+    int status = ACCEPTED;
+
+    if (!read_kind(options->operands[0], &number) ||
+        !read_input(options->count > 1 ? options->operands[1] : "-", text, sizeof text, &input))
+        return TROUBLE;
+    if (kind_of(number) != NULL)
+        status = parse_numbers(input.name, options->numbers ? NULL : kind_of(number), text, input.length, &numbers);
+    if (status != ACCEPTED)
+        return status;
+    answer = bw_pmd_write(number, list, numbers.count, value, sizeof value);
+    if (answer.number != BW_DONE)
+        return refuse_numbers(input.name, answer, &numbers, !options->numbers);
+    if (!write_output(options->count > 2 ? options->operands[2] : "-", value, (size_t)answer.value, &input, 1))
+        return TROUBLE;
+    return ACCEPTED;
+}

@@ -1,0 +1,59 @@
+/* PMD values in words. A value is a list of fields; this table says what the fields of each kind are called. */
+#ifndef PMD_H
+#define PMD_H
+
+#include <stdbool.h>
+#include <stddef.h>
+#include <stdint.h>
+#include <stdio.h>
+
+#include "ballastwren.h"
+
+/* How a field is put in words. */
+enum form {
+    NUMBER,
+    YES_NO,
+    SPEAKER_LAYOUT,
+    LANGUAGE,
+    OBJECT_CLASS,
+    GAIN,
+    ELEMENTS, /* element ids until one is 0 */
+    NAME      /* bytes until one is 0 */
+};
+
+struct field {
+    const char *word; /* its name in words */
+    const char *key;  /* its name in JSON where the number stands */
+    enum form form;
+};
+
+struct kind {
+    uint32_t number;
+    const char *name;
+    const struct field *once; /* the field before the first record, NULL if there is none */
+    const struct field *fields;
+    size_t count;
+};
+
+/* The kind of this number, NULL if there is none. */
+const struct kind *kind_of(uint32_t number);
+
+/* Reads KIND, a name in either case or a number. Tells its trouble and returns false for anything else. */
+bool read_kind(const char *text, uint32_t *number);
+
+/* Prints the fields of a value: a line for each record after `indent`; the bare numbers on one line; JSON members. */
+void print_words(FILE *to, const char *indent, const struct kind *kind, const uint32_t *numbers, size_t count);
+void print_numbers(FILE *to, const char *indent, const uint32_t *numbers, size_t count);
+void print_json_members(FILE *to, const struct kind *kind, const uint32_t *numbers, size_t count);
+
+/* A text as numbers, and the line that each stands on. */
+struct numbers {
+    uint32_t *list;
+    uint32_t *lines;
+    size_t count;
+};
+
+/* Reads what print_words prints for this kind, or with no kind bare numbers. Tells a bad line and returns REFUSED. */
+int parse_numbers(const char *name, const struct kind *kind, const uint8_t *text, size_t length, struct numbers *numbers);
+
+#endif

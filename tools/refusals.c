@@ -1,0 +1,84 @@
+#include "refusals.h"
+
+#include <stdio.h>
+
+#include "escape.h"
+#include "exits.h"
+
+const char *refusal_sentence(uint64_t number)
+{
+    static const char *const sentences[] = {
+        "nothing is wrong",
+        "a pack has at most 32768 bytes and a PMD value at most 4096",
+        "the bytes end before the pack does; it was cut off, or this is not a pack",
+        "the first 16 bytes are not the key of an ST 2109 audio metadata pack",
+        "a length is a byte from 00 to 7F, or 81 to 84 and that many bytes; this form is forbidden",
+        "bytes follow the pack; one pack to a file, or its length is wrong",
+        "a tag does not begin with 00 or 80 and has at most four bytes",
+        "the tag, the length or the value runs past the end of the pack or Sync that holds it",
+        "Config stands first and CRC last, and no Config, Sync or CRC stands inside a Sync",
+        "a pack has at most 64 items and inner payloads, and at most 32 mappings",
+        "a Config has two bytes of pack offset, then whole mappings of a tag and a 16-byte label",
+        "a mapping takes neither tags 1 to 3 nor the labels of Config, Sync and CRC, and no tag or label twice",
+        "a Sync has two numbers of two bytes each and at least one payload",
+        "the CRC is not that of the bytes before it; the pack was damaged or changed",
+        "this is not a keep sheet; 'ballastwren sheet make' makes one from text",
+        "what must be written is too long; a pack has at most 32768 bytes with its CRC, a PMD value 4096",
+        "it ends inside a record, or has no record at all",
+        "a reserved value, or a number too wide for its field",
+        "the bits after the last record are not all zero",
+        "the kinds are 1 APD, 2 APN, 3 AOD, 4 XYZ, 5 AEN and 6 ESN"
+    };
+
+    return number < sizeof sentences / sizeof sentences[0] ? sentences[number] : "no such refusal is known here";
+}
+
+static void begin(const char *name)
+{
+    fputs("ballastwren: ", stderr);
+    print_name(stderr, name);
+    fputs(": ", stderr);
+}
+
+static void begin_refusal(const char *name, uint64_t number, const char *unit, uint64_t place)
+{
+    begin(name);
+    fprintf(stderr, "refused: %s (%llu) at %s %llu: ", bw_refusal_name(number), (unsigned long long)number, unit,
+            (unsigned long long)place);
+}
+
+int refuse(const char *name, bw_answer answer, const char *unit)
+{
+    begin_refusal(name, answer.number, unit, answer.value);
+    fprintf(stderr, "%s\n", refusal_sentence(answer.number));
+    return REFUSED;
+}
+
+int refuse_line(const char *name, size_t line, uint64_t number, const char *sentence)
+{
+    begin_refusal(name, number, "line", line);
+    fprintf(stderr, "%s\n", sentence);
+    return REFUSED;
+}
+
+int refuse_word(const char *name, size_t line, const char *word, size_t length, const char *due)
+{
+    const size_t shown = length < 40 ? length : 40;
+
+    begin_refusal(name, length > 0 ? BW_FIELD : BW_BITS, "line", line);
+    if (length > 0) {
+        putc('\'', stderr);
+        print_escaped(stderr, (const uint8_t *)word, shown);
+        fprintf(stderr, "%s' stands", shown < length ? "..." : "");
+    } else
+        fputs("the line ends", stderr);
+    fprintf(stderr, " where %s is due\n", due);
+    return REFUSED;
+}
+
+int trouble(const char *name, const char *sentence)
+{
+    begin(name);
+    fprintf(stderr, "%s\n", sentence);
+    return TROUBLE;
+}

@@ -1,0 +1,50 @@
+#include "sheets.h"
+
+#include "escape.h"
+#include "labels.h"
+
+/* The archive judges sheets where it scrubs, and judges the sheet first: this pack has no items and is always good. */
+bw_answer judge_sheet(const uint8_t *bytes, size_t length)
+{
+    static const uint8_t empty[] = {0x06, 0x0E, 0x2B, 0x34, 0x02, 0x7F, 0x01, 0x01, 0x0C,
+                                    0x04, 0x01, 0x00, 0x00, 0x00, 0x00, 0x00, 0x00};
+    uint8_t out[64];
+
+    return bw_scrub(bytes, length, empty, sizeof empty, out, sizeof out);
+}
+
+static uint32_t number_at(const uint8_t *bytes, size_t size)
+{
+    uint32_t number = 0;
+
+    for (size_t i = 0; i < size; i++)
+        number = number << 8 | bytes[i];
+    return number;
+}
+
+static void print_label(FILE *to, const char *indent, const uint8_t *bytes)
+{
+    const struct pmd_label *label = pmd_label(bytes);
+
+    fprintf(to, "%slabel ", indent);
+    print_hex(to, bytes, BW_LABEL_SIZE);
+    if (label != NULL)
+        fprintf(to, "  # %s", label->title);
+    putc('\n', to);
+}
+
+void print_sheet(FILE *to, const char *indent, const uint8_t *bytes, size_t length)
+{
+    const size_t labels = length > 0 ? number_at(bytes, 2) : 0;
+    const size_t numbers = length > 0 ? number_at(bytes + 4, 2) : 0;
+    const uint8_t *entry = bytes + 8;
+
+    if (length == 0)
+        fprintf(to, "%skeep all\n", indent);
+    else if (labels == 0 && numbers == 0)
+        fprintf(to, "%skeep none\n", indent);
+    for (size_t i = 0; i < labels; i++, entry += BW_LABEL_SIZE)
+        print_label(to, indent, entry);
+    for (size_t i = 0; i < numbers; i++, entry += 4)
+        fprintf(to, "%snumber %lu\n", indent, (unsigned long)number_at(entry, 4));
+}

@@ -1,0 +1,21 @@
+/* Keep sheets as bytes and as text. */
+#ifndef SHEETS_H
+#define SHEETS_H
+
+#include <stdbool.h>
+#include <stddef.h>
+#include <stdint.h>
+#include <stdio.h>
+
+#include "ballastwren.h"
+
+/* Whether the archive takes these bytes as a keep sheet. */
+bw_answer judge_sheet(const uint8_t *bytes, size_t length);
+
+/* The text of a good sheet, each line after `indent`. `sheet make` reads it back. */
+void print_sheet(FILE *to, const char *indent, const uint8_t *bytes, size_t length);
+
+/* Reads a text into `bytes`, which has room for BW_SHEET_MAX. Tells a bad line and returns REFUSED. */
+int parse_sheet(const char *name, const uint8_t *text, size_t text_length, uint8_t *bytes, size_t *length);
+
+#endif
