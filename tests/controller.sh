@@ -5,7 +5,10 @@ set -uo pipefail
 cd "$(dirname "${BASH_SOURCE[0]}")/.." || exit 2
 . tests/tools.sh
 
-need_toolchain && need pkg-config pkg-config || { echo "0 passed, 1 failed"; exit 1; }
+if ! need_toolchain || ! need pkg-config pkg-config; then
+    echo "0 passed, 1 failed"
+    exit 1
+fi
 folder=$(mktemp -d) || exit 2
 trap 'rm -rf "$folder"' EXIT
 

@@ -1,3 +1,4 @@
+# shellcheck shell=bash
 # Sourced by the scripts beside it, from the root of the tree: what compiles and runs programs that link the archive,
 # which packages they need, and the count of checks.
 #
@@ -15,14 +16,18 @@ else
 fi
 export ARCHIVE CC CXX RUN
 
-# need COMMAND PACKAGE: installs a Debian package if its command is missing.
-need() {
-    command -v "$1" >/dev/null && return
+# install_package PACKAGE: installs a Debian package, quietly.
+install_package() {
     local root=()
     [[ $(id -u) == 0 ]] || root=(sudo)
-    echo "installing $2"
-    local install=("${root[@]}" env DEBIAN_FRONTEND=noninteractive apt-get install -qq -y --no-install-recommends "$2")
+    echo "installing $1"
+    local install=("${root[@]}" env DEBIAN_FRONTEND=noninteractive apt-get install -qq -y --no-install-recommends "$1")
     "${install[@]}" >/dev/null 2>&1 || { "${root[@]}" apt-get update -qq && "${install[@]}" >/dev/null; }
+}
+
+# need COMMAND PACKAGE: installs the package if its command is missing.
+need() {
+    command -v "$1" >/dev/null || install_package "$2"
     command -v "$1" >/dev/null && return
     echo "$1 is missing and the Debian package $2 could not be installed: please install it by hand"
     return 1
@@ -49,6 +54,21 @@ check() {
         passed=$((passed + 1))
     else
         printf 'FAILED  %s\n%s\n' "$name" "$said"
+        failed=$((failed + 1))
+    fi
+}
+
+# tallied COMMAND...: a program that ends with its own 'N passed, M failed'; its lines, but for that, and its counts.
+tallied() {
+    local said status sum
+    said=$("$@" 2>&1)
+    status=$?
+    sum=$(tail -n 1 <<<"$said")
+    sed '$d' <<<"$said"
+    if [[ $sum =~ ^([0-9]+)\ passed,\ ([0-9]+)\ failed$ && ($status -eq 0 || ${BASH_REMATCH[2]} -gt 0) ]]; then
+        passed=$((passed + BASH_REMATCH[1])) failed=$((failed + BASH_REMATCH[2]))
+    else
+        printf '%s\nFAILED  %s: status %s\n' "$sum" "$*" "$status"
         failed=$((failed + 1))
     fi
 }

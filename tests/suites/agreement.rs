@@ -1,0 +1,151 @@
+//! The archive and the reference give the same answer, the same place and the same whole buffer on generated inputs,
+//! and every refusal that a function can give is met.
+
+use ballastwren_tests::archive::{Answer, Call};
+use ballastwren_tests::damage::damaged;
+use ballastwren_tests::oracle;
+use ballastwren_tests::packs::{any_pack, stretch, Said, KEY, PACK_MAX};
+use ballastwren_tests::random::Random;
+use ballastwren_tests::runs::{compare, inputs, require, seed};
+use ballastwren_tests::sheets::{any_sheet_bytes, bad_sheet};
+use ballastwren_tests::values::{any_kind, any_list, any_value};
+
+const INPUTS: usize = 200_000;
+
+/// A pack, good or damaged, and what it was to say.
+fn good_or_damaged(random: &mut Random) -> (Said, Vec<u8>) {
+    let (said, mut pack) = any_pack(random);
+    let bytes = match random.below(1000) {
+        0..=399 => pack.bytes(),
+        400..=997 => damaged(random, &mut pack),
+        _ => {
+            stretch(&mut pack, random.between(PACK_MAX + 1, PACK_MAX + 9));
+            pack.bytes()
+        }
+    };
+    (said, bytes)
+}
+
+/// A buffer's size around what is needed: one short, exact, one long, or something else.
+fn room(random: &mut Random, needed: usize) -> usize {
+    match random.below(10) {
+        0 | 1 => needed.saturating_sub(1),
+        2..=4 => needed,
+        5 | 6 => needed + 1,
+        7 => random.below(needed + 1),
+        8 => needed + random.below(80),
+        _ => 0,
+    }
+}
+
+/// What a call needs when nothing is short, or a small number if it is refused.
+fn needed(random: &mut Random, call: &Call) -> usize {
+    match oracle::outcome(call).answer {
+        Answer { number: 0, value } => value as usize,
+        _ => random.below(60),
+    }
+}
+
+fn check_call(random: &mut Random) -> Call {
+    Call::Check { pack: good_or_damaged(random).1 }
+}
+
+fn read_call(random: &mut Random) -> Call {
+    let (_, pack) = good_or_damaged(random);
+    let needed = needed(random, &Call::Read { pack: pack.clone(), rows: vec![0; 520] });
+    let room = room(random, needed);
+    Call::Read { pack, rows: random.numbers(room) }
+}
+
+fn scrub_call(random: &mut Random) -> Call {
+    let (said, pack) = if random.percent(70) {
+        let (said, pack) = any_pack(random);
+        (said, pack.bytes())
+    } else {
+        good_or_damaged(random)
+    };
+    let sheet = if random.percent(85) { any_sheet_bytes(random, &said) } else { bad_sheet(random, &said) };
+    let needed = needed(random, &Call::Scrub { sheet: sheet.clone(), pack: pack.clone(), out: vec![0; PACK_MAX] });
+    let room = if random.below(2000) == 0 { 40_000 } else { room(random, needed) };
+    Call::Scrub { sheet, pack, out: random.bytes(room) }
+}
+
+fn pmd_read_call(random: &mut Random) -> Call {
+    let kind = any_kind(random);
+    // Now and then a value of another kind than it is read as.
+    let made_as = if random.percent(5) { any_kind(random) } else { kind };
+    let value = any_value(random, made_as);
+    let needed = needed(random, &Call::PmdRead { kind, value: value.clone(), numbers: vec![0; 5461] });
+    let room = room(random, needed);
+    Call::PmdRead { kind, value, numbers: random.numbers(room) }
+}
+
+fn pmd_write_call(random: &mut Random) -> Call {
+    let kind = any_kind(random);
+    let made_as = if random.percent(5) { any_kind(random) } else { kind };
+    let numbers = any_list(random, made_as);
+    let needed = needed(random, &Call::PmdWrite { kind, numbers: numbers.clone(), out: vec![0; 4200] });
+    let room = room(random, needed);
+    Call::PmdWrite { kind, numbers, out: random.bytes(room) }
+}
+
+fn gain_call(random: &mut Random, index: usize) -> Call {
+    Call::Gain { gain: if index < 100_000 { index as u32 } else { random.next() as u32 } }
+}
+
+#[test]
+fn bw_check_agrees() {
+    let tally = compare(seed(), inputs(INPUTS), |random, _| check_call(random));
+    require("bw_check", &tally, &[1, 2, 3, 4, 5, 6, 7, 8, 9, 10, 11, 12, 13]);
+}
+
+#[test]
+fn bw_read_agrees() {
+    let tally = compare(seed() + 1, inputs(INPUTS), |random, _| read_call(random));
+    require("bw_read", &tally, &[1, 2, 3, 4, 5, 6, 7, 8, 9, 10, 11, 12, 13, 15]);
+}
+
+#[test]
+fn bw_scrub_agrees() {
+    let tally = compare(seed() + 2, inputs(INPUTS), |random, _| scrub_call(random));
+    require("bw_scrub", &tally, &[1, 2, 3, 4, 5, 6, 7, 8, 9, 10, 11, 12, 13, 14, 15]);
+}
+
+#[test]
+fn bw_pmd_read_agrees() {
+    let tally = compare(seed() + 3, inputs(INPUTS), |random, _| pmd_read_call(random));
+    require("bw_pmd_read", &tally, &[1, 15, 16, 17, 18, 19]);
+}
+
+#[test]
+fn bw_pmd_write_agrees() {
+    let tally = compare(seed() + 4, inputs(INPUTS), |random, _| pmd_write_call(random));
+    require("bw_pmd_write", &tally, &[15, 16, 17, 19]);
+}
+
+#[test]
+fn bw_gain_agrees() {
+    let tally = compare(seed() + 5, inputs(INPUTS), gain_call);
+    require("bw_gain", &tally, &[17]);
+}
+
+/// Every value of two bytes after the key, with the pack's length right, and every single byte.
+#[test]
+fn small_packs_agree() {
+    let small = |_: &mut Random, index: usize| {
+        let [.., one, two] = (index as u32).to_be_bytes();
+        let rest = if index < 1 << 16 { vec![2, one, two] } else { vec![two] };
+        Call::Check { pack: [&KEY[..], &rest].concat() }
+    };
+    compare(0, (1 << 16) + 256, small);
+}
+
+/// Every value of two bytes, of every kind.
+#[test]
+fn small_values_agree() {
+    let small = |_: &mut Random, index: usize| {
+        let value = (index as u32).to_be_bytes()[2..].to_vec();
+        Call::PmdRead { kind: 1 + (index >> 16) as u32, value, numbers: vec![77; 4] }
+    };
+    compare(0, 6 << 16, small);
+}
