@@ -1,0 +1,476 @@
+/*
+ * Every export of the archive on ranges of exact size: each refusal at its place with nothing changed, successes with
+ * the whole buffer, buffers one short, exact and one long, and NULL with length 0.
+ *
+ *     exports guard     ranges between pages that may not be touched
+ *     exports heap      ranges of exact size from the heap, for a memory checker
+ */
+#include <stdio.h>
+#include <string.h>
+
+#include "ballastwren.h"
+#include "lent.h"
+
+static int passed, failed;
+static bool met[BW_KIND + 1];
+
+/* Where ranges are put now, and where all: the last is repeated if there is but one. */
+static enum lent_side side, sides[2];
+
+static void report(bool good, const char *function, const char *name)
+{
+    printf("%s  %s, %s\n", good ? "ok    " : "FAILED", function, name);
+    if (good)
+        passed++;
+    else
+        failed++;
+}
+
+/* One test: a case tried with its ranges on each side of a guard. */
+static void test(bool (*try)(const void *), const void *c, const char *function, const char *name)
+{
+    bool good = true;
+    for (int i = 0; i < 2; i++) {
+        side = sides[i];
+        good = try(c) && good;
+    }
+    report(good, function, name);
+}
+
+static bool is(bw_answer answer, uint64_t number, uint64_t value)
+{
+    if (answer.number <= BW_KIND)
+        met[answer.number] = true;
+    if (answer.number == number && answer.value == value)
+        return true;
+    printf("got %s %llu, expected %s %llu\n", bw_refusal_name(answer.number), (unsigned long long)answer.value,
+           bw_refusal_name(number), (unsigned long long)value);
+    return false;
+}
+
+typedef struct {
+    const char *name;
+    const char *pack;
+    uint64_t number, value;
+} pack_case;
+
+/* A Config of one mapping, but for its tag. */
+#define LABEL "060E2B340401010D0404020D00000000"
+#define UTILITY "060E2B340401010D0404020200000000"
+
+static const pack_case PACKS[] = {
+    {"one byte above the cap", "{00}32769", BW_BIG, 0},
+    {"a pack above the cap", "K 83 008000 05 82 7FFC {AA}32764", BW_BIG, 0},
+    {"15 bytes", "{06}15", BW_SHORT, 0},
+    {"no length", "K", BW_SHORT, 0},
+    {"length cut off", "K 8200", BW_SHORT, 0},
+    {"value past the range", "K 03 0501", BW_SHORT, 0},
+    {"greatest length", "K 84FFFFFFFF 00", BW_SHORT, 0},
+    {"another key", "{06}16 00", BW_KEY, 0},
+    {"length 80", "K 80", BW_LENGTH, 16},
+    {"length 85", "K 85 0000000000", BW_LENGTH, 16},
+    {"payload's length 80", "K 02 0580", BW_LENGTH, 17},
+    {"a byte after the value", "K 00 00", BW_TRAIL, 0},
+    {"tag byte 80", "K 02 8000", BW_TAG, 17},
+    {"tag byte 00", "K 03 0500 00", BW_TAG, 19},
+    {"tag of five bytes", "K 05 8180808001", BW_TAG, 17},
+    {"a mapping's tag byte 00", "K 15 0113 0000 00" LABEL, BW_TAG, 17},
+    {"value cut off", "K 02 0501", BW_CUT, 17},
+    {"tag cut off", "K 03 0500 81", BW_CUT, 19},
+    {"cut off in a Sync", "K 08 0206 00000000 0501", BW_CUT, 23},
+    {"Config second", "K 06 0500 01020000", BW_PLACE, 19},
+    {"CRC in a Sync", "K 08 0206 00000000 0300", BW_PLACE, 23},
+    {"CRC before a payload", "K 08 030400000000 0500", BW_PLACE, 17},
+    {"65 payloads", "K 8182 {0500}65", BW_COUNT, 146},
+    {"a Sync after 64 payloads", "K 8182 {0500}64 0200", BW_COUNT, 146},
+    {"a Config of one byte", "K 03 010100", BW_CONFIG, 17},
+    {"a mapping without its label", "K 05 0103000040", BW_CONFIG, 17},
+    {"a tag mapped to Sync's label", "K 15 0113 0000 40" UTILITY, BW_MAP, 17},
+    {"tag 3 mapped", "K 15 0113 0000 03" LABEL, BW_MAP, 17},
+    {"a tag mapped twice", "K 26 0124 0000 40" LABEL "40" "{11}16", BW_MAP, 17},
+    {"a label mapped twice", "K 26 0124 0000 40" LABEL "41" LABEL, BW_MAP, 17},
+    {"a Sync of three bytes", "K 05 0203000000", BW_SYNC, 17},
+    {"a Sync without a payload", "K 06 0204 00000000", BW_SYNC, 17},
+    {"a CRC of three bytes", "K 05 0303000000", BW_CRC, 17},
+    {"a wrong CRC", "K 06 0304 00000000", BW_CRC, 17},
+    {"an empty value", "K 00", BW_DONE, 0},
+    {"one payload", "K 03 0501AA", BW_DONE, 1},
+    {"a longer length form than needed", "K 04 058101AA", BW_DONE, 1},
+    {"64 payloads", "K 8180 {0500}64", BW_DONE, 64},
+    {"a Sync of one payload", "K 08 0206 FFFF0000 0500", BW_DONE, 2},
+    {"a labelled payload", "K 17 0113 FFFE 40" LABEL "4000", BW_DONE, 1},
+    {"as long as a pack may be", "K 82 7FED 05 82 7FE9 {AA}32745", BW_DONE, 1},
+};
+
+static lent pack_of(const char *text)
+{
+    size_t len;
+    const uint8_t *bytes = bytes_of(text, &len);
+    return lent_to_read(bytes, len, side);
+}
+
+static bool try_check(const void *given)
+{
+    const pack_case *c = given;
+    lent pack = pack_of(c->pack);
+    bool good = is(bw_check(pack.bytes, pack.len), c->number, c->value);
+    lent_back(&pack);
+    return good;
+}
+
+/* Into a run of `room` numbers; those after the numbers that were written are as they were. */
+static bool read_into(const pack_case *c, size_t room, uint64_t number, uint64_t value)
+{
+    lent pack = pack_of(c->pack), rows = lent_to_write(4 * room, side);
+    bool good = is(bw_read(pack.bytes, pack.len, (uint32_t *)rows.bytes, room), number, value);
+    good = good && lent_rest_is(&rows, number == BW_DONE ? 4 * value : 0, LENT_FILLER) && lent_margin_is_whole(&rows);
+    lent_back(&pack);
+    lent_back(&rows);
+    return good;
+}
+
+static bool try_read(const void *given)
+{
+    const pack_case *c = given;
+    if (c->number != BW_DONE)
+        return read_into(c, BW_ROWS_MAX, c->number, c->value) && read_into(c, 0, c->number, c->value);
+    size_t size = BW_ROW * (c->value + 1);
+    return read_into(c, size - 1, BW_NOROOM, 0) && read_into(c, size, BW_DONE, size) &&
+           read_into(c, size + 1, BW_DONE, size);
+}
+
+/* A refused scrub, under the sheet that keeps all. */
+static bool try_refused_scrub(const void *given)
+{
+    const pack_case *c = given;
+    lent pack = pack_of(c->pack), out = lent_to_write(64, side);
+    bool good = is(bw_scrub(NULL, 0, pack.bytes, pack.len, out.bytes, out.len), c->number, c->value);
+    good = good && lent_rest_is(&out, 0, LENT_FILLER) && lent_margin_is_whole(&out);
+    lent_back(&pack);
+    lent_back(&out);
+    return good;
+}
+
+static void packs(void)
+{
+    for (size_t i = 0; i < sizeof PACKS / sizeof PACKS[0]; i++) {
+        const pack_case *c = &PACKS[i];
+        test(try_check, c, "bw_check", c->name);
+        test(try_read, c, "bw_read", c->name);
+        if (c->number != BW_DONE)
+            test(try_refused_scrub, c, "bw_scrub", c->name);
+    }
+}
+
+/* The rows of a pack with everything in it. */
+static bool try_rows(const void *text)
+{
+    static const uint32_t expected[] = {
+        (uint32_t)-2, 1, 3, 0, 0, 0, 0, 0,        0, 38, 1, 22, 40, 3, 0, 0,
+        1, 43, 2, 1, 45, 7, (uint32_t)-1, 65535,  2, 49, 0, 8, 51, 1, 0, 0,
+    };
+    lent pack = pack_of(text), rows = lent_to_write(sizeof expected, side);
+    bool good = is(bw_read(pack.bytes, pack.len, (uint32_t *)rows.bytes, rows.len / 4), BW_DONE, rows.len / 4);
+    good = good && memcmp(rows.bytes, expected, sizeof expected) == 0;
+    lent_back(&pack);
+    lent_back(&rows);
+    return good;
+}
+
+typedef struct {
+    const char *name, *sheet, *pack;
+    uint64_t number;
+    const char *written; /* on success: the whole pack but the CRC's four bytes */
+} scrub_case;
+
+static const scrub_case SCRUBS[] = {
+    {"keep all", "", "K 03 0501AA", BW_DONE, "K 09 0501AA 0304"},
+    {"keep none", "0000 0008 0000 0008", "K 03 0501AA", BW_DONE, "K 06 0304"},
+    {"keep a number", "0000 0008 0001 0008 00000005", "K 06 0501AA 0601BB", BW_DONE, "K 09 0501AA 0304"},
+    {"keep a label", "0001 0008 0000 0018" LABEL, "K 1A 0113 0000 50" LABEL "5001AA 0500", BW_DONE,
+     "K 1E 0113 0000 40" LABEL "4001AA 0304"},
+    {"drop a number that is mapped", "0000 0008 0001 0008 00000050", "K 18 0113 0000 50" LABEL "5001AA", BW_DONE,
+     "K 06 0304"},
+    {"scrub a Sync", "0000 0008 0001 0008 00000005", "K 0C 020A 00010002 0501AA 0601BB", BW_DONE,
+     "K 0F 0207 00010002 0501AA 0304"},
+    {"drop a Sync", "0000 0008 0001 0008 00000007", "K 0C 020A 00010002 0501AA 0601BB", BW_DONE, "K 06 0304"},
+    {"keep the pack offset", "0000 0008 0000 0008", "K 04 0102 8000", BW_DONE, "K 0A 0102 8000 0304"},
+    {"a sheet of 7 bytes", "0000 0008 0000 00", "K 00", BW_SHEET, NULL},
+    {"a sheet with a byte too many", "0000 0008 0000 0008 00", "K 00", BW_SHEET, NULL},
+    {"a sheet of 33 numbers", "0000 0008 0021 0008 {00000005}33", "K 00", BW_SHEET, NULL},
+    {"a sheet with a repeat", "0000 0008 0002 0008 {00000005}2", "K 00", BW_SHEET, NULL},
+    {"a sheet with number 3", "0000 0008 0001 0008 00000003", "K 00", BW_SHEET, NULL},
+    {"a sheet with Sync's label", "0001 0008 0000 0018" UTILITY, "K 00", BW_SHEET, NULL},
+    {"a bad sheet before a bad pack", "00", "00", BW_SHEET, NULL},
+    {"a full pack, whose CRC would be too much", "", "K 82 7FED 05 82 7FE9 {AA}32745", BW_NOROOM, NULL},
+};
+
+static bool scrub_into(const scrub_case *c, size_t room, uint64_t number, size_t size)
+{
+    lent sheet = pack_of(c->sheet), pack = pack_of(c->pack), out = lent_to_write(room, side);
+    bool good = is(bw_scrub(sheet.bytes, sheet.len, pack.bytes, pack.len, out.bytes, room), number, size);
+    if (number == BW_DONE) {
+        size_t start_len;
+        const uint8_t *start = bytes_of(c->written, &start_len);
+        good = good && memcmp(out.bytes, start, start_len) == 0 && lent_rest_is(&out, size, 0) &&
+               bw_check(out.bytes, size).number == BW_DONE;
+    } else {
+        good = good && lent_rest_is(&out, 0, LENT_FILLER);
+    }
+    good = good && lent_margin_is_whole(&out);
+    lent_back(&sheet);
+    lent_back(&pack);
+    lent_back(&out);
+    return good;
+}
+
+static bool try_scrub(const void *given)
+{
+    const scrub_case *c = given;
+    if (c->number != BW_DONE)
+        return scrub_into(c, 40000, c->number, 0) && scrub_into(c, 0, c->number, 0);
+    size_t size;
+    bytes_of(c->written, &size);
+    size += 4;
+    return scrub_into(c, size - 1, BW_NOROOM, 0) && scrub_into(c, size, BW_DONE, size) &&
+           scrub_into(c, size + 1, BW_DONE, size) && scrub_into(c, size + 1000, BW_DONE, size);
+}
+
+static void scrubs(void)
+{
+    for (size_t i = 0; i < sizeof SCRUBS / sizeof SCRUBS[0]; i++)
+        test(try_scrub, &SCRUBS[i], "bw_scrub", SCRUBS[i].name);
+}
+
+typedef struct {
+    const char *name;
+    uint32_t kind;
+    const char *value;
+    uint64_t number, place;
+    uint32_t numbers[12];
+    size_t count;
+} value_case;
+
+static const value_case VALUES[] = {
+    {"a presentation", BW_APD, "0080AE000000", BW_DONE, 0, {1, 0, 5568, 0}, 4},
+    {"a presentation's name", BW_APN, "0095C0 4100", BW_DONE, 0, {1, 5568, 65, 0}, 4},
+    {"a presentation's name that does not close", BW_APN, "0095C0 41", BW_BITS, 32, {0}, 0},
+    {"an object", BW_AOD, "001000200802000000", BW_DONE, 0, {1, 0, 0, 1, 1, 1, 0, 0, 0, 0, 0}, 11},
+    {"positions", BW_XYZ, "0400401803FF", BW_DONE, 0, {1, 1, 1, 512, 1023}, 5},
+    {"an element's name", BW_AEN, "00 14 10 00", BW_DONE, 0, {1, 65, 0}, 3},
+    {"a substream's name", BW_ESN, "141000", BW_DONE, 0, {1, 65, 0}, 3},
+    {"two substreams", BW_ESN, "14100100", BW_DONE, 0, {1, 65, 0, 1, 0}, 5},
+    {"leftover bits", BW_ESN, "141001", BW_PAD, 20, {0}, 0},
+    {"an empty value", BW_ESN, "", BW_BITS, 0, {0}, 0},
+    {"a sample time alone", BW_XYZ, "FF", BW_BITS, 6, {0}, 0},
+    {"an element 0", BW_AEN, "0004 1000", BW_FIELD, 0, {0}, 0},
+    {"an x of 0", BW_XYZ, "0000400803FF", BW_FIELD, 18, {0}, 0},
+    {"kind 0", 0, "141000", BW_KIND, 0, {0}, 0},
+    {"kind 7", 7, "141000", BW_KIND, 0, {0}, 0},
+    {"kind 7 before a value above the cap", 7, "{11}4097", BW_KIND, 0, {0}, 0},
+    {"a value above the cap", BW_ESN, "{11}4097", BW_BIG, 0, {0}, 0},
+    {"a value as long as it may be", BW_ESN, "{11}4096", BW_BITS, 32764, {0}, 0},
+};
+
+static bool value_into(const value_case *c, size_t room, uint64_t number, uint64_t place)
+{
+    lent value = pack_of(c->value), numbers = lent_to_write(4 * room, side);
+    bw_answer got = bw_pmd_read(c->kind, value.bytes, value.len, (uint32_t *)numbers.bytes, room);
+    bool good = is(got, number, number == BW_DONE ? c->count : place);
+    size_t written = number == BW_DONE ? 4 * c->count : 0;
+    good = good && (written == 0 || memcmp(numbers.bytes, c->numbers, written) == 0) &&
+           lent_rest_is(&numbers, written, LENT_FILLER) && lent_margin_is_whole(&numbers);
+    lent_back(&value);
+    lent_back(&numbers);
+    return good;
+}
+
+static bool try_pmd_read(const void *given)
+{
+    const value_case *c = given;
+    if (c->number != BW_DONE)
+        return value_into(c, 20, c->number, c->place) && value_into(c, 0, c->number, c->place);
+    return value_into(c, c->count - 1, BW_NOROOM, 0) && value_into(c, c->count, BW_DONE, 0) &&
+           value_into(c, c->count + 1, BW_DONE, 0);
+}
+
+static bool numbers_into(const value_case *c, const uint8_t *bytes, size_t len, size_t room, uint64_t number)
+{
+    lent numbers = lent_to_read(c->numbers, 4 * c->count, side), out = lent_to_write(room, side);
+    bw_answer got = bw_pmd_write(c->kind, (const uint32_t *)numbers.bytes, c->count, out.bytes, room);
+    size_t written = number == BW_DONE ? len : 0;
+    bool good = is(got, number, written) && (written == 0 || memcmp(out.bytes, bytes, written) == 0) &&
+                lent_rest_is(&out, written, LENT_FILLER) && lent_margin_is_whole(&out);
+    lent_back(&numbers);
+    lent_back(&out);
+    return good;
+}
+
+static bool try_pmd_write(const void *given)
+{
+    const value_case *c = given;
+    size_t len;
+    const uint8_t *bytes = bytes_of(c->value, &len);
+    return numbers_into(c, bytes, len, len - 1, BW_NOROOM) && numbers_into(c, bytes, len, len, BW_DONE) &&
+           numbers_into(c, bytes, len, len + 1, BW_DONE);
+}
+
+static void values(void)
+{
+    for (size_t i = 0; i < sizeof VALUES / sizeof VALUES[0]; i++) {
+        const value_case *c = &VALUES[i];
+        test(try_pmd_read, c, "bw_pmd_read", c->name);
+        if (c->number == BW_DONE)
+            test(try_pmd_write, c, "bw_pmd_write", c->name);
+    }
+}
+
+typedef struct {
+    const char *name;
+    uint32_t kind;
+    uint32_t numbers[12];
+    size_t count;
+    uint64_t number, place;
+} list_case;
+
+static const list_case LISTS[] = {
+    {"an empty list", BW_ESN, {0}, 0, BW_BITS, 0},
+    {"a name that does not close", BW_ESN, {1, 65}, 2, BW_BITS, 2},
+    {"a second record cut off", BW_XYZ, {1, 1, 1, 512, 1023, 2}, 6, BW_BITS, 6},
+    {"a substream 16", BW_ESN, {16, 0}, 2, BW_FIELD, 0},
+    {"a name's byte 256", BW_ESN, {1, 256, 0}, 3, BW_FIELD, 1},
+    {"the greatest number", BW_ESN, {1, UINT32_MAX, 0}, 3, BW_FIELD, 1},
+    {"class 7", BW_AOD, {1, 7, 0, 1, 1, 1, 0, 0, 0, 0, 0}, 11, BW_FIELD, 1},
+    {"speaker_config 7", BW_APD, {1, 7, 5568, 0}, 4, BW_FIELD, 1},
+    {"langcod with a group of 28", BW_APN, {1, 28u << 10 | 1u << 5, 0}, 3, BW_FIELD, 1},
+    {"kind 7", 7, {1, 0}, 2, BW_KIND, 0},
+};
+
+static bool try_refused_list(const void *given)
+{
+    const list_case *c = given;
+    lent numbers = lent_to_read(c->numbers, 4 * c->count, side), out = lent_to_write(64, side);
+    bw_answer got = bw_pmd_write(c->kind, (const uint32_t *)numbers.bytes, c->count, out.bytes, out.len);
+    bool good = is(got, c->number, c->place) && lent_rest_is(&out, 0, LENT_FILLER) && lent_margin_is_whole(&out);
+    lent_back(&numbers);
+    lent_back(&out);
+    return good;
+}
+
+static void lists(void)
+{
+    for (size_t i = 0; i < sizeof LISTS / sizeof LISTS[0]; i++)
+        test(try_refused_list, &LISTS[i], "bw_pmd_write", LISTS[i].name);
+}
+
+/* As many substreams without a name, of 12 bits and two numbers each; the last has one byte of a name if asked. */
+static void fill_list(uint32_t *list, size_t records, bool with_name)
+{
+    for (size_t i = 0; i < records; i++) {
+        list[2 * i] = 1;
+        list[2 * i + 1] = 0;
+    }
+    if (with_name) {
+        list[2 * records - 1] = 65;
+        list[2 * records] = 0;
+    }
+}
+
+/* 2,730 records and a byte of a name fill 4,096 bytes. */
+static bool try_longest(const void *unused)
+{
+    static uint32_t list[BW_PMD_NUMBERS_MAX];
+    (void)unused;
+    fill_list(list, 2730, true);
+    lent out = lent_to_write(BW_PMD_VALUE_MAX, side), numbers = lent_to_write(sizeof list, side);
+    bool good = is(bw_pmd_write(BW_ESN, list, BW_PMD_NUMBERS_MAX, out.bytes, out.len), BW_DONE, BW_PMD_VALUE_MAX);
+    bw_answer got = bw_pmd_read(BW_ESN, out.bytes, out.len, (uint32_t *)numbers.bytes, BW_PMD_NUMBERS_MAX);
+    good = good && is(got, BW_DONE, BW_PMD_NUMBERS_MAX) && memcmp(numbers.bytes, list, sizeof list) == 0;
+    lent_back(&out);
+    lent_back(&numbers);
+    return good;
+}
+
+static bool try_too_long(const void *unused)
+{
+    static uint32_t list[2 * 2731];
+    (void)unused;
+    fill_list(list, 2731, false);
+    lent out = lent_to_write(2 * BW_PMD_VALUE_MAX, side);
+    bool good = is(bw_pmd_write(BW_ESN, list, 2 * 2731, out.bytes, out.len), BW_NOROOM, 0);
+    good = good && lent_rest_is(&out, 0, LENT_FILLER);
+    lent_back(&out);
+    return good;
+}
+
+static void empty_ranges(void)
+{
+    const uint8_t pack[] = {0x06, 0x0E, 0x2B, 0x34, 0x02, 0x7F, 0x01, 0x01, 0x0C, 0x04, 0x01, 0, 0, 0, 0, 0, 0};
+    const uint8_t value[] = {0x14, 0x10, 0x00};
+    const uint32_t numbers[] = {1, 65, 0};
+    uint8_t out[32];
+    report(is(bw_check(NULL, 0), BW_SHORT, 0), "bw_check", "NULL");
+    report(is(bw_read(NULL, 0, NULL, 0), BW_SHORT, 0), "bw_read", "NULL and NULL");
+    report(is(bw_read(pack, sizeof pack, NULL, 0), BW_NOROOM, 0), "bw_read", "NULL rows");
+    report(is(bw_scrub(NULL, 0, NULL, 0, NULL, 0), BW_SHORT, 0), "bw_scrub", "NULL thrice");
+    report(is(bw_scrub(NULL, 0, pack, sizeof pack, NULL, 0), BW_NOROOM, 0), "bw_scrub", "NULL sheet and buffer");
+    report(is(bw_scrub(NULL, 0, pack, sizeof pack, out, sizeof out), BW_DONE, 23), "bw_scrub", "NULL sheet");
+    report(is(bw_pmd_read(BW_ESN, NULL, 0, NULL, 0), BW_BITS, 0), "bw_pmd_read", "NULL and NULL");
+    report(is(bw_pmd_read(BW_ESN, value, sizeof value, NULL, 0), BW_NOROOM, 0), "bw_pmd_read", "NULL numbers");
+    report(is(bw_pmd_write(BW_ESN, NULL, 0, NULL, 0), BW_BITS, 0), "bw_pmd_write", "NULL and NULL");
+    report(is(bw_pmd_write(BW_ESN, numbers, 3, NULL, 0), BW_NOROOM, 0), "bw_pmd_write", "NULL buffer");
+}
+
+static void gains(void)
+{
+    bool good = true;
+    for (uint32_t gain = 0; gain < 64; gain++) {
+        bw_gain_answer got = bw_gain(gain);
+        int32_t half_db = gain == 0 ? 0 : (int32_t)gain - 51;
+        good = good && got.number == BW_DONE && got.muted == (gain == 0) && got.half_db == half_db;
+    }
+    report(good, "bw_gain", "0 to 63");
+    const uint32_t wide[] = {64, 255, 256, 65536, UINT32_MAX};
+    good = true;
+    for (size_t i = 0; i < sizeof wide / sizeof wide[0]; i++) {
+        bw_gain_answer got = bw_gain(wide[i]);
+        good = good && got.number == BW_FIELD && got.muted == 0 && got.half_db == 0;
+    }
+    report(good, "bw_gain", "above 63");
+}
+
+static void names(void)
+{
+    bool good = strcmp(bw_refusal_name(BW_DONE), "DONE") == 0 && strcmp(bw_refusal_name(BW_BIG), "BIG") == 0 &&
+                strcmp(bw_refusal_name(BW_SHEET), "SHEET") == 0 && strcmp(bw_refusal_name(BW_KIND), "KIND") == 0 &&
+                strcmp(bw_refusal_name(20), "UNKNOWN") == 0 && strcmp(bw_refusal_name(UINT64_MAX), "UNKNOWN") == 0;
+    report(good, "bw_refusal_name", "first, last and beyond");
+    report(sizeof(bw_answer) == 16 && sizeof(bw_gain_answer) == 12, "answers", "their sizes");
+    for (int number = BW_DONE; number <= BW_KIND; number++)
+        report(met[number], "met", bw_refusal_name((uint64_t)number));
+}
+
+int main(int count, char **arguments)
+{
+    if (count == 2 && strcmp(arguments[1], "heap") == 0) {
+        sides[0] = sides[1] = HEAP;
+    } else if (count == 2 && strcmp(arguments[1], "guard") == 0) {
+        sides[0] = AFTER;
+        sides[1] = BEFORE;
+    } else {
+        fprintf(stderr, "usage: %s guard|heap\n", arguments[0]);
+        return 2;
+    }
+    packs();
+    test(try_rows, "K 29 0113 FFFE 40" LABEL "4003 616263 0207 FFFFFFFF 080178 0304 59747E70", "bw_read", "all rows");
+    scrubs();
+    values();
+    lists();
+    test(try_longest, NULL, "bw_pmd_write and bw_pmd_read", "as much as fits 4,096 bytes");
+    test(try_too_long, NULL, "bw_pmd_write", "a value above the cap");
+    empty_ranges();
+    gains();
+    names();
+    printf("%d passed, %d failed\n", passed, failed);
+    return failed == 0 ? 0 : 1;
+}
