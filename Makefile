@@ -6,9 +6,10 @@
 # make uninstall  remove them again
 # make test       the gate, from nothing: the same as .ci/run
 # make check      prove what has changed and run the programs, quickly
+# make fuzz       compare archive and reference on what a fuzzer finds, for SECONDS (default 60)
 # make bench      CRC speed beside libavutil's
 # make clean      remove everything that was built
-.PHONY: demo lib install uninstall test check bench clean
+.PHONY: demo lib install uninstall test check fuzz bench clean
 
 PREFIX ?= /usr/local
 DESTDIR ?=
@@ -42,6 +43,9 @@ test:
 
 check:
 	rt check
+
+fuzz: $(ARCHIVE)
+	tests/fuzz.sh $(or $(SECONDS),60)
 
 bench:
 	bench/run
