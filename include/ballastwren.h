@@ -76,10 +76,10 @@ extern "C" {
 #define BW_SHEET_MAX (8 + 16 * BW_SHEET_LABELS_MAX + 4 * BW_SHEET_NUMBERS_MAX) /* bytes of the longest keep sheet */
 
 /*
- * Bytes of stack that the deepest function takes, rounded up. Measured: bw_scrub 39,168, bw_check 27,248, the PMD
- * functions and bw_gain under 400.
+ * Bytes of stack that no function goes beyond. Measured on the archive as it is built now: bw_scrub 43,024, bw_read
+ * 35,968, bw_check 27,248, bw_pmd_write 352, bw_pmd_read 296, bw_gain 16.
  */
-#define BW_STACK 40960
+#define BW_STACK 49152
 
 /* Tag numbers on a keep sheet are from 4 (1 to 3 are Config, Sync and CRC) to this. */
 #define BW_TAG_MAX 268435455
