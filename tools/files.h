@@ -47,6 +47,9 @@ bool write_output(const char *path, const uint8_t *bytes, size_t length, const s
 /* Makes sure that no file that is opened later takes the place of a closed standard input, output or error. */
 bool hold_standard_files(void);
 
+/* Brings out what was printed. Returns false if that fails, which close_standard_output will tell. */
+bool flush_standard_output(void);
+
 /* Closes standard output. Tells its trouble and returns TROUBLE if what was printed did not get out. */
 int close_standard_output(int status);
 

@@ -186,12 +186,22 @@ bool hold_standard_files(void)
     return true;
 }
 
+/* Why standard output could not be written, where that is known. */
+static int output_trouble;
+
+bool flush_standard_output(void)
+{
+    if (fflush(stdout) == 0 && !ferror(stdout))
+        return true;
+    output_trouble = errno;
+    return false;
+}
+
 int close_standard_output(int status)
 {
-    const bool failed = ferror(stdout) != 0;
+    const bool good = flush_standard_output();
 
-    errno = 0;
-    if (fclose(stdout) == 0 && !failed)
+    if (fclose(stdout) == 0 && good)
         return status;
-    return trouble("standard output", errno != 0 ? strerror(errno) : "not all of it could be written");
+    return trouble("standard output", output_trouble != 0 ? strerror(output_trouble) : "not all of it could be written");
 }

@@ -44,9 +44,8 @@ static bool report(struct output *output, const struct input *sheet, const uint8
 
     if (reads_back(output, bytes, length, back)) {
         print_report(stdout, sheet->bytes, sheet->length, back, length);
-        if (fflush(stdout) == 0 && !ferror(stdout))
+        if (flush_standard_output())
             return true;
-        trouble("standard output", strerror(errno));
     }
     drop_output(output);
     return false;
