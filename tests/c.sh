@@ -1,5 +1,6 @@
 #!/usr/bin/env bash
 # The archive from C: the header in C99 and C++, every export on lent ranges of exact size, and the stack they use.
+# shellcheck disable=SC2086  # RUN is a command of several words, or none
 set -uo pipefail
 cd "$(dirname "${BASH_SOURCE[0]}")/.." || exit 2
 . tests/tools.sh

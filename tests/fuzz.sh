@@ -12,7 +12,10 @@ work=$PWD/target/fuzz
 mkdir -p "$work/corpus"
 
 # The fuzzer's runtime is a package of its own.
-runtime() { echo 'int LLVMFuzzerTestOneInput(void) { return 0; }' | clang -fsanitize=fuzzer -x c -o "$work/probe" - 2>/dev/null; }
+runtime() {
+    local target='int LLVMFuzzerTestOneInput(void) { return 0; }'
+    clang -fsanitize=fuzzer -x c -o "$work/probe" - <<<"$target" 2>/dev/null
+}
 runtime || install_package libclang-rt-dev
 runtime || { echo "clang's libFuzzer is missing: please install the Debian package libclang-rt-dev"; exit 1; }
 
@@ -22,8 +25,9 @@ coverage="-Cpasses=sancov-module -Ccodegen-units=1"
 for option in level=4 inline-8bit-counters pc-table trace-compares; do
     coverage+=" -Cllvm-args=-sanitizer-coverage-$option"
 done
-(cd tests/fuzz && cargo run --release --offline --quiet --bin seeds -- "$work/corpus")
-(cd tests/fuzz && RUSTFLAGS=$coverage cargo build --lib --release --offline --quiet --target "$triple" --target-dir "$work/cargo")
+cd tests/fuzz
+cargo run --release --offline --quiet --bin seeds -- "$work/corpus"
+RUSTFLAGS=$coverage cargo build --lib --release --offline --quiet --target "$triple" --target-dir "$work/cargo"
 clang -fsanitize=fuzzer -o "$work/fuzz" "$work/cargo/$triple/release/libballastwren_fuzz.a" -lpthread -ldl -lm
 cd "$work"
 nice ./fuzz -max_total_time="$seconds" -max_len=4096 -timeout=10 -print_final_stats=1 corpus

@@ -1,5 +1,5 @@
-//! Faults: of the pack's parts before it is laid out, and of its bytes afterwards. Several may meet in one pack, so that
-//! their order is tried too.
+//! Faults: of the pack's parts before it is laid out, and of its bytes afterwards. Several may meet in one pack, so
+//! that their order is tried too.
 
 use crate::packs::{listed_label, tag_bytes, Length, Pack, Part, Value, ITEMS_MAX, KEY, MAPPINGS_MAX, PACK_MAX};
 use crate::random::Random;

@@ -26,6 +26,11 @@ fn good_or_damaged(random: &mut Random) -> (Said, Vec<u8>) {
     (said, bytes)
 }
 
+fn any_good(random: &mut Random) -> (Said, Vec<u8>) {
+    let (said, pack) = any_pack(random);
+    (said, pack.bytes())
+}
+
 /// A buffer's size around what is needed: one short, exact, one long, or something else.
 fn room(random: &mut Random, needed: usize) -> usize {
     match random.below(10) {
@@ -58,15 +63,17 @@ fn read_call(random: &mut Random) -> Call {
 }
 
 fn scrub_call(random: &mut Random) -> Call {
-    let (said, pack) = if random.percent(70) {
-        let (said, pack) = any_pack(random);
-        (said, pack.bytes())
-    } else {
-        good_or_damaged(random)
+    let (said, pack) = if random.percent(70) { any_good(random) } else { good_or_damaged(random) };
+    let full = pack.len() > PACK_MAX - 50;
+    let sheet = match random.below(100) {
+        _ if full && random.percent(70) => vec![],
+        0..=84 => any_sheet_bytes(random, &said),
+        _ => bad_sheet(random, &said),
     };
-    let sheet = if random.percent(85) { any_sheet_bytes(random, &said) } else { bad_sheet(random, &said) };
-    let needed = needed(random, &Call::Scrub { sheet: sheet.clone(), pack: pack.clone(), out: vec![0; PACK_MAX] });
-    let room = if random.below(2000) == 0 { 40_000 } else { room(random, needed) };
+    let call = Call::Scrub { sheet: sheet.clone(), pack: pack.clone(), out: vec![0; PACK_MAX] };
+    let needed = needed(random, &call);
+    // Around the cap the new pack itself may be too long, whatever the room.
+    let room = if full { random.pick(&[PACK_MAX - 1, PACK_MAX, PACK_MAX + 1, 40_000]) } else { room(random, needed) };
     Call::Scrub { sheet, pack, out: random.bytes(room) }
 }
 

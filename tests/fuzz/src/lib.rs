@@ -1,8 +1,8 @@
 //! A libFuzzer target. An input becomes calls of the archive, and each must have the reference's outcome. The reference
 //! is what is instrumented: the fuzzer looks for inputs that take it another way.
 //!
-//! An input is two bytes, which choose the functions and how a pack is completed, then the pack, keep sheet, PMD value or
-//! numbers. Completing it (key, own length, CRC) lets the fuzzer work on what stands behind them.
+//! An input is two bytes, which choose the functions and how a pack is completed, then the pack, keep sheet, PMD value
+//! or numbers. Completing it (key, own length, CRC) lets the fuzzer work on what stands behind them.
 
 use std::sync::{Mutex, OnceLock};
 
@@ -45,10 +45,14 @@ fn calls(input: &[u8]) -> Vec<Call> {
             let out = vec![0xA5; 40 + body.len()];
             vec![Call::Scrub { sheet: sheet.to_vec(), pack: pack(choice, body), out }]
         }
-        5 | 6 => kinds(choice).map(|kind| Call::PmdRead { kind, value: rest.to_vec(), numbers: vec![77; 4 * room] }).collect(),
+        5 | 6 => {
+            let read = |kind| Call::PmdRead { kind, value: rest.to_vec(), numbers: vec![77; 4 * room] };
+            kinds(choice).map(read).collect()
+        }
         _ => {
             let numbers: Vec<u32> = rest.chunks(2).map(number).collect();
-            kinds(choice).map(|kind| Call::PmdWrite { kind, numbers: numbers.clone(), out: vec![0xA5; 4 * room] }).collect()
+            let write = |kind| Call::PmdWrite { kind, numbers: numbers.clone(), out: vec![0xA5; 4 * room] };
+            kinds(choice).map(write).collect()
         }
     }
 }
@@ -56,13 +60,21 @@ fn calls(input: &[u8]) -> Vec<Call> {
 /// One kind, or all of them and the two beside them.
 fn kinds(choice: u8) -> std::ops::RangeInclusive<u32> {
     let kind = u32::from(choice >> 3 & 7);
-    if choice & 0x80 == 0 { kind..=kind } else { 0..=7 }
+    if choice & 0x80 == 0 {
+        kind..=kind
+    } else {
+        0..=7
+    }
 }
 
 /// Two bytes, the greatest of them standing for numbers that need four.
 fn number(bytes: &[u8]) -> u32 {
     let number = bytes.iter().fold(0, |number, byte| number << 8 | u32::from(*byte));
-    if number < 0xFF00 { number } else { number << 16 | 0xFFFF }
+    if number < 0xFF00 {
+        number
+    } else {
+        number << 16 | 0xFFFF
+    }
 }
 
 fn pack_calls(pack: Vec<u8>, room: usize) -> Vec<Call> {
