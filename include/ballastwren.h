@@ -11,7 +11,7 @@
  *   - A range that is written (`out`, `rows`, `numbers` of bw_pmd_read) must not overlap any other range of the call.
  *     Ranges that are only read may overlap.
  *   - It keeps no state and takes no memory, so any number of threads may call it at a time.
- *   - It does not recurse, and takes at most BW_STACK bytes of stack.
+ *   - It does not recurse. BW_STACK bytes of stack are enough for any call.
  *   - On refusal no byte and no number of a lent range has changed.
  *
  * Answers
@@ -76,8 +76,8 @@ extern "C" {
 #define BW_SHEET_MAX (8 + 16 * BW_SHEET_LABELS_MAX + 4 * BW_SHEET_NUMBERS_MAX) /* bytes of the longest keep sheet */
 
 /*
- * Bytes of stack that no function goes beyond. Measured: bw_scrub 42 KiB, bw_read 36 KiB, bw_check 27 KiB, the others
- * under 1 KiB.
+ * Bytes of stack to leave for a call. Measured, not proved: bw_scrub takes 42 KiB, bw_read 36 KiB, bw_check 27 KiB, the
+ * others under 1 KiB.
  */
 #define BW_STACK 49152
 
