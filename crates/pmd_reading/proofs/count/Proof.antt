@@ -163,19 +163,19 @@ over : (c : tie.After-loop2 Inv-loop3 μ-loop3 Inv-loop2 μ-loop2 Inv-loop μ-lo
 over c = pieces-over (c .before .before .before .before .pre .1) (c .loop2-test .left) (c .before .loop2 .inv)
 
 returns-3 : tie.Need-returns-3 Inv-loop3 μ-loop3 Inv-loop2 μ-loop2 Inv-loop μ-loop
-returns-3 c = let o = over (c .before .before .before) in counts length (kept-ends (o .kept) (c .before .before .if3 .taken) _ (c .before .fetch2 .ensures) (c .if4 .taken)) (ap A.Done (sym (o .kept .long)))
+returns-3 c = let o = over (c .before .before .before) in counts length (kept-ends (o .kept) (omega (arith, c .before .before .if3 .taken)) _ (c .before .fetch2 .ensures) (c .if4 .taken)) (ap A.Done (sym (o .kept .long)))
 
 refused-requires-3 : tie.Need-refused-requires-3 Inv-loop3 μ-loop3 Inv-loop2 μ-loop2 Inv-loop μ-loop
 refused-requires-3 c κs = search needs
 
 returns-4 : tie.Need-returns-4 Inv-loop3 μ-loop3 Inv-loop2 μ-loop2 Inv-loop μ-loop
-returns-4 c = answers length (kept-pad (over (c .before .before .before .before) .kept) (c .before .before .before .if3 .taken) _ (c .before .before .fetch2 .ensures) (c .before .if4 .left)) (c .refused3 .ensures)
+returns-4 c = answers length (kept-pad (over (c .before .before .before .before) .kept) (omega (arith, c .before .before .before .if3 .taken)) _ (c .before .before .fetch2 .ensures) (c .before .if4 .left)) (c .refused3 .ensures)
 
 loop-less : tie.Need-loop-less Inv-loop3 μ-loop3 Inv-loop2 μ-loop2 Inv-loop μ-loop
 loop-less c = omega (arith, c .before .before .loop2 .inv .gone, c .before .before .before .loop .inv .there, c .before .loop2-test .left, c .if3 .left)
 
 loop-again : tie.Need-loop-again Inv-loop3 μ-loop3 Inv-loop2 μ-loop2 Inv-loop μ-loop
-loop-again c = let o = over (c .before) in let walkable = c .before .before .before .before .before .pre .1 in record { known = record { xs = o .xs; also = refl; kept = kept-again (o .kept) walkable (c .if3 .left) }; there = walkable .begins }
+loop-again c = let o = over (c .before) in let walkable = c .before .before .before .before .before .pre .1 in record { known = record { xs = o .xs; also = refl; kept = kept-again (o .kept) walkable (omega (arith, c .if3 .left)) }; there = walkable .begins }
 
 pub count-spec : {M : Type 1} → statement M
 count-spec =
