@@ -1,0 +1,51 @@
+-- `vectors::laid` is safe and ends: the place stays within the run, whose length does not change.
+-- Assumes nothing.
+use Prim.Native.Nat.{ℕ, _+_, _-_, _≤_}
+use mathlib.Core.Path.{_≡_, _∙_}
+use mathlib.Core.List.{List}
+use native.Mathlib.Omega.{arith}
+use borrow.Author.Needs.{needs}
+use lib.ListN.{length}
+use Rattle.lists.specs.Digits.{digits}
+use Rattle.lists.proofs.Digits.{length-digits}
+use Rattle.lists.specs.Over.{Wrote}
+use Rattle.lists.proofs.Over.{wrote-length}
+use Rattle.vectors.proofs.laid.Statement.{statement}
+use Rattle.vectors.proofs.laid.Tie as tie
+
+abbrev Inv-loop : tie.InvT-loop
+Inv-loop numbers out₀ i₀ at₀ out i at = (i ≤ length numbers) × ((at ≤ length out) × (length out ≡ length out₀))
+
+abbrev μ-loop : tie.MeasureT-loop
+μ-loop numbers out₀ i₀ at₀ out i at = length numbers - i
+
+-- a number of four bytes was written
+four : (v : ℕ) {xs us : List ℕ} {at n : ℕ} → Wrote xs at (digits 256 4 v) n us → at + 4 ≤ length xs → (n ≤ length us) × (length us ≡ length xs)
+four v w h =
+    let k = length-digits 256 4 v in
+    let same = wrote-length (omega (arith, k)) w in
+    (omega (arith, w .next, same, k), same)
+
+again : tie.Need-loop-again Inv-loop μ-loop
+again c =
+    let f = four _ (c .before .before .write-be32 .ensures) (omega arith) in
+    (omega arith, (f .0, f .1 ∙ c .before .before .before .before .before .before .before .loop .inv .1 .1))
+
+pub laid-spec : {M : Type 1} → statement M
+laid-spec =
+    tie.close
+    (tie.spec
+    Inv-loop
+    μ-loop
+    (λ c. search needs)
+    (λ c. search needs)
+    (λ c. search needs)
+    (λ c. search needs)
+    (λ c. search needs)
+    (λ c. search needs)
+    (λ c κs. omega arith)
+    (λ c. search needs)
+    (λ c. search needs)
+    (λ c. again c)
+    (λ c. search needs)
+    (λ c. search needs))
