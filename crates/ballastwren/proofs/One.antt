@@ -7,10 +7,11 @@ use lib.ListN.{length}
 use Rattle.lists.proofs.Cases.{one}
 use Rattle.refusals.specs.Outcomes.{Outcome}
 use Rattle.pack.specs.Reading.{checked}
+use Rattle.kept.specs.Scrubbed.{scrubbed}
 use Rattle.pmd.specs.Lent.{within}
 use Rattle.pmd.specs.Reading.{reading}
 use Rattle.pmd.specs.Writing.{writing}
-use Rattle.ballastwren.specs.Told.{toldOf, Given}
+use Rattle.ballastwren.specs.Told.{toldOf, Given, Left}
 use Rattle.ballastwren.specs.declared.Told.{Told}
 
 given-one : {o : Outcome (List ℕ)} {before us vs : List ℕ} {a b : Told} → Given o before a us → Given o before b vs → (a ≡ b) × (us ≡ vs)
@@ -18,6 +19,10 @@ given-one p q = (p .answers ∙ sym (q .answers), p .run ∙ sym (q .run))
 
 pub bw-check-one : (pack : List ℕ) (a b : Told) → a ≡ toldOf (checked pack) → b ≡ toldOf (checked pack) → a ≡ b
 bw-check-one pack a b = one
+
+pub bw-scrub-one : (sheet pack before us vs : List ℕ) (a b : Told)
+    → Left (scrubbed sheet pack (length before)) before a us → Left (scrubbed sheet pack (length before)) before b vs → (a ≡ b) × (us ≡ vs)
+bw-scrub-one sheet pack before us vs a b p q = (one (p .answers) (q .answers), one (p .buffer) (q .buffer))
 
 pub bw-pmd-read-one : (kind : ℕ) (value before us vs : List ℕ) (a b : Told)
     → Given (within (length before) (reading kind value)) before a us → Given (within (length before) (reading kind value)) before b vs

@@ -6,6 +6,7 @@ use Prim.Native.Nat.{ℕ}
 use lib.ListN.{length}
 use Rattle.refusals.specs.Outcomes.{Outcome, answered, told}
 use Rattle.refusals.specs.declared.Answer.{Answer}
+use Rattle.kept.specs.Scrubbed.{leaves}
 use Rattle.pmd.specs.Lent.{lent}
 use Rattle.ballastwren.specs.declared.Told.{Told}
 
@@ -17,3 +18,8 @@ toldOf a = record { number = (told a) .number; value = (told a) .value }
 pub record Given (o : Outcome (List ℕ)) (before : List ℕ) (answer : Told) (after : List ℕ) : Type 0 where
   pub answers : answer ≡ toldOf (answered length o)
   pub run : after ≡ lent before o
+
+-- the numbers of a scrub, whose outcome is the bytes of the new pack, and what its buffer holds then
+pub record Left (o : Outcome (List ℕ)) (before : List ℕ) (answer : Told) (after : List ℕ) : Type 0 where
+  pub answers : answer ≡ toldOf (answered length o)
+  pub buffer : after ≡ leaves before o

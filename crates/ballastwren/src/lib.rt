@@ -3,11 +3,11 @@
 ghost use mathlib.Core.Path.{_≡_};
 ghost use lib.ListN.{length};
 ghost use Rattle.pack.specs.Reading.{checked};
+ghost use Rattle.kept.specs.Scrubbed.{scrubbed};
 ghost use Rattle.pmd.specs.Lent.{within, lent};
 ghost use Rattle.pmd.specs.Reading.{reading};
 ghost use Rattle.pmd.specs.Writing.{writing};
-ghost use Rattle.ballastwren.specs.Told.{toldOf, Given};
-ghost use Rattle.pmd.specs.Gain.{levelOf};
+ghost use Rattle.ballastwren.specs.Told.{toldOf, Given, Left};
 use refusals::Answer;
 
 // An answer for C: number 0 and a count, or a refusal's number and its place.
@@ -47,6 +47,16 @@ pub extern "C" fn bw_check(pack: &[u8]) -> Told
     ensures { λ r. ⌜ r ≡ toldOf (checked (now (pack .entry))) ⌝ }
 {
     let a = checker::check(pack);
+    told_answer(a)
+}
+
+// Scrubs a pack by the bytes of a keep sheet into `out`: the new pack's length, or the refusal, in this order: the sheet's, the pack's, NOROOM.
+// What follows the new pack in `out` becomes 0; a refusal changes nothing in it.
+#[no_mangle]
+pub extern "C" fn bw_scrub(sheet: &[u8], pack: &[u8], out: &mut [u8]) -> Told
+    ensures { λ r. ⌜ Left (scrubbed (now (sheet .entry)) (now (pack .entry)) (length (now (out .entry)))) (now (out .entry)) r (now (out .exit)) ⌝ }
+{
+    let a = scrub::scrub(sheet, pack, &mut *out);
     told_answer(a)
 }
 
