@@ -11,8 +11,10 @@ use Rattle.kept.specs.Scrubbed.{scrubbed}
 use Rattle.pmd.specs.Lent.{within}
 use Rattle.pmd.specs.Reading.{reading}
 use Rattle.pmd.specs.Writing.{writing}
-use Rattle.ballastwren.specs.Told.{toldOf, Given, Left}
+use Rattle.pmd.specs.Gain.{levelOf}
+use Rattle.ballastwren.specs.Told.{toldOf, toldGainOf, Given, Left}
 use Rattle.ballastwren.specs.declared.Told.{Told}
+use Rattle.ballastwren.specs.declared.ToldGain.{ToldGain}
 
 given-one : {o : Outcome (List ℕ)} {before us vs : List ℕ} {a b : Told} → Given o before a us → Given o before b vs → (a ≡ b) × (us ≡ vs)
 given-one p q = (p .answers ∙ sym (q .answers), p .run ∙ sym (q .run))
@@ -33,3 +35,6 @@ pub bw-pmd-write-one : (kind : ℕ) (numbers before us vs : List ℕ) (a b : Tol
     → Given (within (length before) (writing kind numbers)) before a us → Given (within (length before) (writing kind numbers)) before b vs
     → (a ≡ b) × (us ≡ vs)
 bw-pmd-write-one kind numbers before us vs a b = given-one
+
+pub bw-gain-one : (gain : ℕ) (a b : ToldGain) → a ≡ toldGainOf (levelOf gain) → b ≡ toldGainOf (levelOf gain) → a ≡ b
+bw-gain-one gain a b = one

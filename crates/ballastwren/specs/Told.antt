@@ -2,17 +2,25 @@
 -- Assumes nothing.
 use mathlib.Core.Path.{_≡_}
 use mathlib.Core.List.{List}
+use mathlib.Core.Bool.{cond}
 use Prim.Native.Nat.{ℕ}
 use lib.ListN.{length}
 use Rattle.refusals.specs.Outcomes.{Outcome, answered, told}
 use Rattle.refusals.specs.declared.Answer.{Answer}
 use Rattle.kept.specs.Scrubbed.{leaves}
 use Rattle.pmd.specs.Lent.{lent}
+use Rattle.pmd.specs.Gain.{toldLevel}
+use Rattle.pmd.specs.declared.Level.{Level}
 use Rattle.ballastwren.specs.declared.Told.{Told}
+use Rattle.ballastwren.specs.declared.ToldGain.{ToldGain}
 
 -- an answer as its two numbers
 abbrev pub toldOf : Answer → Told
 toldOf a = record { number = (told a) .number; value = (told a) .value }
+
+-- a level as its three numbers: 1 where it is muted
+abbrev pub toldGainOf : Level → ToldGain
+toldGainOf l = record { number = (toldLevel l) .number; muted = cond ((toldLevel l) .muted) 1 0; «half_db» = (toldLevel l) .halfDecibels }
 
 -- the numbers of an outcome that is a list, and what the lent run holds then
 pub record Given (o : Outcome (List ℕ)) (before : List ℕ) (answer : Told) (after : List ℕ) : Type 0 where

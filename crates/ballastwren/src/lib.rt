@@ -7,7 +7,9 @@ ghost use Rattle.kept.specs.Scrubbed.{scrubbed};
 ghost use Rattle.pmd.specs.Lent.{within, lent};
 ghost use Rattle.pmd.specs.Reading.{reading};
 ghost use Rattle.pmd.specs.Writing.{writing};
-ghost use Rattle.ballastwren.specs.Told.{toldOf, Given, Left};
+ghost use Rattle.pmd.specs.Gain.{levelOf};
+ghost use Rattle.ballastwren.specs.Told.{toldOf, toldGainOf, Given, Left};
+use pmd::Level;
 use refusals::Answer;
 
 // An answer for C: number 0 and a count, or a refusal's number and its place.
@@ -15,6 +17,14 @@ use refusals::Answer;
 pub struct Told {
     pub number: u64,
     pub value: u64,
+}
+
+// A gain for C: number 0 and either muted 1 or so many half decibels, or a refusal's number and two zeros.
+#[repr(C)]
+pub struct ToldGain {
+    pub number: u32,
+    pub muted: u32,
+    pub half_db: i32,
 }
 
 fn wide(n: u32) -> u64
@@ -76,4 +86,29 @@ pub extern "C" fn bw_pmd_write(kind: u32, numbers: &[u32], out: &mut [u8]) -> To
 {
     let a = pmd_writing::pmd_write(kind, numbers, &mut *out);
     told_answer(a)
+}
+
+// What an object's gain means: muted, or half decibels. A gain above 63 is refused.
+#[no_mangle]
+pub extern "C" fn bw_gain(gain: u32) -> ToldGain
+    ensures { λ r. ⌜ r ≡ toldGainOf (levelOf gain) ⌝ }
+{
+    let level = pmd::gain(gain);
+    match level {
+        Level::Muted => ToldGain {
+            number: 0,
+            muted: 1,
+            half_db: 0,
+        },
+        Level::HalfDecibels(n) => ToldGain {
+            number: 0,
+            muted: 0,
+            half_db: n,
+        },
+        Level::Refused { why, place: _ } => ToldGain {
+            number: refusals::number(why),
+            muted: 0,
+            half_db: 0,
+        },
+    }
 }

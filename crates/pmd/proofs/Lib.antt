@@ -5,3 +5,4 @@ pub mod Records
 pub mod Trip
 pub mod RoundTrips
 pub mod One
+pub mod Levels
