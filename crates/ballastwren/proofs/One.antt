@@ -7,8 +7,9 @@ use lib.ListN.{length}
 use Rattle.lists.proofs.Cases.{one}
 use Rattle.refusals.specs.Outcomes.{Outcome}
 use Rattle.pack.specs.Reading.{checked}
+use Rattle.rows.specs.Rows.{rowsRead}
 use Rattle.kept.specs.Scrubbed.{scrubbed}
-use Rattle.pmd.specs.Lent.{within}
+use Rattle.refusals.specs.Lent.{within}
 use Rattle.pmd.specs.Reading.{reading}
 use Rattle.pmd.specs.Writing.{writing}
 use Rattle.pmd.specs.Gain.{levelOf}
@@ -21,6 +22,10 @@ given-one p q = (p .answers ∙ sym (q .answers), p .run ∙ sym (q .run))
 
 pub bw-check-one : (pack : List ℕ) (a b : Told) → a ≡ toldOf (checked pack) → b ≡ toldOf (checked pack) → a ≡ b
 bw-check-one pack a b = one
+
+pub bw-read-one : (pack before us vs : List ℕ) (a b : Told)
+    → Given (within (length before) (rowsRead pack)) before a us → Given (within (length before) (rowsRead pack)) before b vs → (a ≡ b) × (us ≡ vs)
+bw-read-one pack before us vs a b = given-one
 
 pub bw-scrub-one : (sheet pack before us vs : List ℕ) (a b : Told)
     → Left (scrubbed sheet pack (length before)) before a us → Left (scrubbed sheet pack (length before)) before b vs → (a ≡ b) × (us ≡ vs)

@@ -8,7 +8,7 @@ use lib.ListN.{length}
 use Rattle.refusals.specs.Outcomes.{Outcome, answered, told}
 use Rattle.refusals.specs.declared.Answer.{Answer}
 use Rattle.kept.specs.Scrubbed.{leaves}
-use Rattle.pmd.specs.Lent.{lent}
+use Rattle.refusals.specs.Lent.{lent}
 use Rattle.pmd.specs.Gain.{toldLevel}
 use Rattle.pmd.specs.declared.Level.{Level}
 use Rattle.ballastwren.specs.declared.Told.{Told}

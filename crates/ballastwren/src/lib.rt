@@ -1,10 +1,11 @@
-// What C calls: include/ballastwren.h says it for the C programmer. Slices pass as a pointer and a length, answers as a struct of two numbers.
+// What C calls: include/ballastwren.h says it for the C programmer. Slices pass as a pointer and a length, answers as a struct of numbers.
 // No function here asks anything of its caller, keeps a state or takes memory.
 ghost use mathlib.Core.Path.{_≡_};
 ghost use lib.ListN.{length};
 ghost use Rattle.pack.specs.Reading.{checked};
+ghost use Rattle.rows.specs.Rows.{rowsRead};
 ghost use Rattle.kept.specs.Scrubbed.{scrubbed};
-ghost use Rattle.pmd.specs.Lent.{within, lent};
+ghost use Rattle.refusals.specs.Lent.{within};
 ghost use Rattle.pmd.specs.Reading.{reading};
 ghost use Rattle.pmd.specs.Writing.{writing};
 ghost use Rattle.pmd.specs.Gain.{levelOf};
@@ -57,6 +58,16 @@ pub extern "C" fn bw_check(pack: &[u8]) -> Told
     ensures { λ r. ⌜ r ≡ toldOf (checked (now (pack .entry))) ⌝ }
 {
     let a = checker::check(pack);
+    told_answer(a)
+}
+
+// Reads a pack into `rows`, eight numbers a row: the pack's row, then one for each item and inner payload in order. Answers how many numbers were
+// written, or the refusal: those of bw_check, then NOROOM. Numbers after those written do not change; a refusal changes none.
+#[no_mangle]
+pub extern "C" fn bw_read(pack: &[u8], rows: &mut [u32]) -> Told
+    ensures { λ r. ⌜ Given (within (length (now (rows .entry))) (rowsRead (now (pack .entry)))) (now (rows .entry)) r (now (rows .exit)) ⌝ }
+{
+    let a = rows::rows(pack, &mut *rows);
     told_answer(a)
 }
 

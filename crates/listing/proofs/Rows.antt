@@ -4,12 +4,12 @@ use mathlib.Core.Path.{_≡_, refl, sym, ap, subst, _∙_}
 use mathlib.Core.List.{List, [], _∷_, _++_}
 use Prim.Native.Nat.{ℕ, zero, suc, _+_, _-_, _<_, _≤_}
 use native.Mathlib.Nat.{not-suc-le-zero}
-use native.Mathlib.Numerals.{add-one}
 use native.Mathlib.Omega.{arith}
 use lib.ListN.{length, getD, take, drop, drop-of-length-le}
-use lib.Seq.{drop-cons, getD-take, length-take-le}
+use lib.Seq.{getD-take, length-take-le}
 use Rattle.pack.specs.Fixed.{mappingCap}
 use Rattle.pack.specs.Meaning.{stretch}
+use Rattle.pack.proofs.Rows.{row-taken}
 use Rattle.pack.specs.declared.Name.{Name}
 use Rattle.pack.specs.declared.Name.the-variants.{Label, Number}
 use Rattle.pack.specs.declared.Payload.{Payload}
@@ -69,12 +69,7 @@ module _ (s places : List ℕ) (rows : List Slot) (count i : ℕ) (d : Slot) (m 
   pub rows-first : i < count
       → rowLines s places (drop i (take count rows)) ≡ itemLine s places (getD rows i d .item) ++ rowLines s places (drop (i + 1) (take count rows))
   unfolding rowLines
-  rows-first h =
-      let l : length (take count rows) ≡ count = length-take-le count rows m in
-      let k : i < length (take count rows) = omega arith in
-      ap (rowLines s places) (drop-cons (take count rows) i d k)
-      ∙ ap (λ (w : Slot). itemLine s places (w .item) ++ rowLines s places (drop (suc i) (take count rows))) (getD-take count rows i d h)
-      ∙ ap (λ (n : ℕ). itemLine s places (getD rows i d .item) ++ rowLines s places (drop n (take count rows))) (sym (add-one i))
+  rows-first h = ap (rowLines s places) (row-taken rows count i d m h)
 
   pub row-stands : i < count → RowsStand s places (take count rows) → ItemStands s places (getD rows i d .item)
   row-stands h p =

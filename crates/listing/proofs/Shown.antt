@@ -5,35 +5,23 @@ use mathlib.Core.List.{List, [], _∷_, _++_, map, append-assoc}
 use Prim.Native.Nat.{ℕ, zero, suc, _+_, _-_, _<_, _≤_}
 use native.Mathlib.Nat.{not-suc-le-zero, lt-of-lt-of-le}
 use native.Mathlib.Omega.{arith}
-use lib.ListN.{length, getD, take, replicate, length-append, length-map, List·getD-append}
-use lib.Seq.{take-at}
+use lib.ListN.{length, getD, take, replicate, length-map, List·getD-append}
 use Rattle.lists.specs.Those.{Each}
 use Rattle.lists.proofs.Those.{each-append}
 use Rattle.pack.specs.Fixed.{mappingCap, itemCap}
-use Rattle.pack.specs.Config.{Mapping}
+use Rattle.pack.specs.Config.{Mapping, placesOf}
 use Rattle.pack.specs.Items.{Part, one, many, countOf}
 use Rattle.pack.specs.Reading.{Read, slot, slots, blank, padded}
 use Rattle.pack.specs.Meaning.{stretch}
+use Rattle.pack.proofs.Rows.{rows-taken}
 use Rattle.pack.specs.declared.Name.{Name}
 use Rattle.pack.specs.declared.Name.the-variants.{Label, Number}
 use Rattle.pack.specs.declared.Payload.{Payload}
 use Rattle.pack.specs.declared.Item.the-variants as I
 use Rattle.pack.specs.declared.Slot.{Slot}
 use Rattle.layout.proofs.Bounds.{NameFits, PayloadLies, PartLies, LabelLies, Accepted}
-use Rattle.listing.specs.Text.{labelLine, namedLine, payloadLines, partLines, placesOf}
+use Rattle.listing.specs.Text.{labelLine, namedLine, payloadLines, partLines}
 use Rattle.listing.specs.Rows.{itemLine, rowLines, NameStands, RowStands, RowsStand}
-
-pub length-slots : (parts : List Part) → length (slots parts) ≡ countOf parts
-unfolding slots countOf
-length-slots [] = refl
-length-slots (one x ∷ r) = omega (arith, length-slots r)
-length-slots (many h xs ∷ r) =
-    let inner = map (λ (x : Payload). slot (I.Inner x)) xs in
-    omega (arith, length-slots r, length-append inner (slots r), length-map xs (λ (x : Payload). slot (I.Inner x)))
-
--- the first so many rows of the array are the rows of the items
-pub rows-taken : (parts : List Part) → take (countOf parts) (padded itemCap blank (slots parts)) ≡ slots parts
-rows-taken parts = take-at (slots parts) (replicate (itemCap - length (slots parts)) blank) (countOf parts) (length-slots parts)
 
 rows-append : (s places : List ℕ) (xs ys : List Slot) → rowLines s places (xs ++ ys) ≡ rowLines s places xs ++ rowLines s places ys
 unfolding rowLines

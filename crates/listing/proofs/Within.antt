@@ -16,6 +16,7 @@ use Rattle.refusals.specs.Refusals.{numberOf}
 use Rattle.refusals.specs.Outcomes.{Outcome, fine, refused}
 use Rattle.numbers.specs.Big.{signed}
 use Rattle.pack.specs.Fixed.{packCap}
+use Rattle.pack.specs.Config.{placesOf}
 use Rattle.pack.specs.Items.{Part, one, many, countOf}
 use Rattle.pack.specs.Reading.{Read, reading}
 use Rattle.pack.specs.Meaning.{stretch}
@@ -25,7 +26,7 @@ use Rattle.pack.specs.declared.Payload.{Payload}
 use Rattle.pack.specs.declared.Head.{Head}
 use Rattle.layout.proofs.Bounds.{NameFits, PayloadLies, HeadLies, PartLies, reading-bounds}
 use Rattle.text.specs.Figures.{decimal, integer}
-use Rattle.listing.specs.Text.{line, packLine, syncLine, numberLine, labelLine, namedLine, payloadLine, payloadLines, partLines, refusedLine, placesOf, listing}
+use Rattle.listing.specs.Text.{line, packLine, syncLine, numberLine, labelLine, namedLine, payloadLine, payloadLines, partLines, refusedLine, listing}
 use Rattle.text.proofs.Figures.{length-decimal, size-most, decimal-short, signed-low, signed-high, length-hex}
 
 length-next : (x y : List ℕ) (r : List (List ℕ)) → length (line (x ∷ y ∷ r)) ≡ length x + 1 + length (line (y ∷ r))

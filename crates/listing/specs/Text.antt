@@ -1,13 +1,13 @@
 -- The text of a reading, in ASCII: a line for the pack and one for each item and inner payload, or one line for a refusal.
 -- Assumes nothing.
-use mathlib.Core.List.{List, [], _∷_, _++_, map}
+use mathlib.Core.List.{List, [], _∷_, _++_}
 use mathlib.Core.Bool.{Bool, cond}
 use Prim.Native.Nat.{ℕ}
 use lib.ListN.{getD}
 use Rattle.refusals.specs.Refusals.{numberOf}
 use Rattle.refusals.specs.Outcomes.{Outcome, fine, refused}
 use Rattle.numbers.specs.Big.{signed}
-use Rattle.pack.specs.Config.{Mapping}
+use Rattle.pack.specs.Config.{placesOf}
 use Rattle.pack.specs.Items.{Part, one, many, countOf}
 use Rattle.pack.specs.Reading.{Read}
 use Rattle.pack.specs.Meaning.{stretch}
@@ -84,10 +84,6 @@ partLines s places (many h xs ∷ r) = syncLine h ++ (payloadLines s places xs +
 -- a refusal: its number in document 01's table and its place
 unfoldable pub refusedLine : ℕ → ℕ → List ℕ
 refusedLine number place = line (refusedWord ∷ decimal number ∷ decimal place ∷ [])
-
--- where the labels of the mappings stand in the pack
-abbrev pub placesOf : List Mapping → List ℕ
-placesOf ms = map (λ (m : Mapping). m .place) ms
 
 -- the listing of the pack s, read as told
 unfoldable pub listing : List ℕ → Outcome Read → List ℕ

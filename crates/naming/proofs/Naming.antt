@@ -1,6 +1,6 @@
 -- Names and their marks, and the loops that find clear marks and give tags.
 -- Assumes nothing.
-use mathlib.Core.Path.{_≡_, refl, sym, ap, ap₂, subst, _∙_}
+use mathlib.Core.Path.{_≡_, refl, sym, ap, ap₂, _∙_}
 use mathlib.Core.List.{List, [], _∷_, _++_, append-assoc, append-nil}
 use mathlib.Core.Bool.{Bool, true, false}
 use Prim.Native.Nat.{ℕ, zero, suc, _+_, _-_, _*_, _<_, _≤_}
@@ -18,11 +18,12 @@ use Rattle.pack.specs.declared.Head.{Head}
 use Rattle.pack.specs.Fixed.{itemCap}
 use Rattle.pack.specs.Said.{number}
 use Rattle.pack.specs.Reading.{padded}
+use Rattle.pack.specs.Rows.{NameFits, ItemFits}
 use Rattle.kept.specs.Sheet.{Sheet}
 use Rattle.kept.specs.Kept.{keeps}
 use Rattle.naming.specs.declared.Mark.{Mark}
 use Rattle.naming.specs.declared.Mark.the-variants as M
-use Rattle.naming.specs.Marks.{markName, markItem, NameFits, ItemFits, PlacesFit}
+use Rattle.naming.specs.Marks.{markName, markItem, PlacesFit}
 use Rattle.naming.specs.Given.{clearFrom, clearAt, given, byIndex, EachBelow}
 use Rattle.naming.proofs.Padded.{set-padded}
 
@@ -43,9 +44,6 @@ module _ (flags : List Bool) (sheet : Sheet) {x : Name} where
   unfolding markName
   number-goes t e h = rw (e, h)
 
-pub label-fits : {x : Name} (i : ℕ) → x ≡ N.Label i → NameFits x → i < 32
-label-fits i e h = subst NameFits e h
-
 module _ (flags : List Bool) (sheet : Sheet) {x : Item} where
   pub single-mark : (y : Payload) {r : Mark} → x ≡ I.Single y → r ≡ markName flags sheet (y .name) → r ≡ markItem flags sheet x
   unfolding markItem
@@ -58,12 +56,6 @@ module _ (flags : List Bool) (sheet : Sheet) {x : Item} where
   pub sync-mark : (y : Head) → x ≡ I.Sync y → M.Gone ≡ markItem flags sheet x
   unfolding markItem
   sync-mark y e = rw e
-
-pub single-fits : {x : Item} (y : Payload) → x ≡ I.Single y → ItemFits x → NameFits (y .name)
-single-fits y e h = subst ItemFits e h
-
-pub inner-fits : {x : Item} (y : Payload) → x ≡ I.Inner y → ItemFits x → NameFits (y .name)
-inner-fits y e h = subst ItemFits e h
 
 name-label : (flags : List Bool) (sheet : Sheet) (x : Name) (i : ℕ) → NameFits x → markName flags sheet x ≡ M.Label i → i < 32
 unfolding markName

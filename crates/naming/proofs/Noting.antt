@@ -4,7 +4,7 @@ use mathlib.Core.Path.{_≡_, refl, sym, ap, subst, _∙_}
 use mathlib.Core.List.{List, [], _∷_, _++_, map, map-append}
 use mathlib.Core.Bool.{Bool, true, false, _||_}
 use mathlib.Core.Logic.{_⊎_, inl, inr}
-use Prim.Native.Nat.{ℕ, zero, suc, _+_, _-_, _<_, _≤_}
+use Prim.Native.Nat.{ℕ, _+_, _-_, _<_, _≤_}
 use native.Mathlib.Omega.{arith}
 use lib.ListN.{length, take, getD, set, replicate, length-append, length-map, length-set, getD-replicate}
 use lib.Seq.{getD-set-same, getD-set-other, length-take-le, take-all}
@@ -18,7 +18,7 @@ use Rattle.pack.specs.declared.Slot.{Slot}
 use Rattle.naming.specs.declared.Mark.{Mark}
 use Rattle.naming.specs.declared.Mark.the-variants as M
 use Rattle.naming.specs.declared.Marked.{Marked}
-use Rattle.naming.specs.Marks.{numbersOf, labelsOf, marked, Noted, ItemFits, RowsFit}
+use Rattle.naming.specs.Marks.{numbersOf, labelsOf, marked, Noted}
 use Rattle.naming.proofs.Padded.{set-padded, map-next}
 use Rattle.naming.proofs.Growing.{among-last, numbers-number, numbers-gone, numbers-label, labels-gone, labels-number, labels-seen, labels-new, marks-few}
 
@@ -168,9 +168,3 @@ module _ {f : Slot → Mark} {xs : List Slot} {marks : List Marked} {order : Lis
       → Noted (map f xs) (record { marks = marks; order = order; labels = labels; taken = taken })
   noting-ends g h =
       subst (λ (l : List Slot). Noted (map f l) (record { marks = marks; order = order; labels = labels; taken = taken })) (take-all i xs h) (g .notes .noted)
-
--- a row of those that fit
-pub row-fits : (xs : List Slot) (i : ℕ) (d : Slot) → RowsFit xs → i < length xs → ItemFits ((getD xs i d) .item)
-row-fits [] i d f h = absurd (omega arith)
-row-fits (x ∷ xs) zero d f h = f .0
-row-fits (x ∷ xs) (suc i) d f h = row-fits xs i d (f .1) (omega arith)

@@ -11,7 +11,7 @@ use Rattle.pack.specs.declared.Name.the-variants as N
 use Rattle.pack.specs.declared.Item.{Item}
 use Rattle.pack.specs.declared.Item.the-variants as I
 use Rattle.pack.specs.declared.Slot.{Slot}
-use Rattle.pack.specs.Fixed.{itemCap, mappingCap}
+use Rattle.pack.specs.Fixed.{itemCap}
 use Rattle.pack.specs.Said.{label, number}
 use Rattle.pack.specs.Reading.{padded}
 use Rattle.kept.specs.Sheet.{Sheet}
@@ -62,20 +62,6 @@ pub record Noted (ms : List Mark) (r : Names) : Type 0 where
   pub order : r .order ≡ padded itemCap 0 (labelsOf [] ms)
   pub labels : r .labels ≡ length (labelsOf [] ms)
   pub taken : (n : ℕ) → n < 64 → getD (r .taken) n false ≡ among (64 + n) (numbersOf ms)
-
--- a label is one of the mappings
-abbrev pub NameFits : Name → Type 0
-NameFits (N.Label i) = i < mappingCap
-NameFits (N.Number t) = Unit
-
-abbrev pub ItemFits : Item → Type 0
-ItemFits (I.Single x) = NameFits (x .name)
-ItemFits (I.Inner x) = NameFits (x .name)
-ItemFits (I.Sync h) = Unit
-
-abbrev pub RowsFit : List Slot → Type 0
-RowsFit [] = Unit
-RowsFit (x ∷ r) = ItemFits (x .item) × RowsFit r
 
 -- the labels stand in the pack
 abbrev pub PlacesFit : List ℕ → List ℕ → Type 0

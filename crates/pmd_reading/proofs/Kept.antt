@@ -20,10 +20,10 @@ use Rattle.refusals.specs.declared.Refusal.the-variants as R
 use Rattle.pmd.specs.declared.Piece.{Piece}
 use Rattle.pmd.specs.Table.{widthOf, valueOf, mayHold}
 use Rattle.pmd.specs.Records.{goesOn, onward, width, takes, after, closed, opened}
-use Rattle.pmd.specs.Lent.{prepend}
+use Rattle.refusals.specs.Lent.{prepend}
 use Rattle.pmd.specs.Reading.{padding, readFrom}
 use Rattle.pmd.proofs.Fields.{width-some}
-use Rattle.pmd.proofs.Outcomes.{prepend-none, prepend-prepend, prepend-fine}
+use Rattle.refusals.proofs.Lent.{prepend-none, prepend-prepend, prepend-fine}
 use Rattle.pmd_rows.specs.declared.Row.{Row}
 use Rattle.pmd_rows.specs.Rows.{leftOf, Walkable}
 use Rattle.pmd_rows.proofs.Walk.{blank, left-next}

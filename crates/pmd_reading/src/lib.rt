@@ -7,7 +7,7 @@ ghost use mathlib.Core.Path.{_≡_};
 ghost use Prim.Native.Nat.{_-_, _*_, _<_, _≤_};
 ghost use lib.ListN.{length};
 ghost use Rattle.refusals.specs.Outcomes.{answered};
-ghost use Rattle.pmd.specs.Lent.{within, lent, Delivered};
+ghost use Rattle.refusals.specs.Lent.{within, lent, Delivered};
 ghost use Rattle.pmd.specs.Reading.{reading};
 ghost use Rattle.pmd_rows.specs.Rows.{Walkable};
 ghost use Rattle.pmd_reading.specs.ByRow.{readRow, Roomy};

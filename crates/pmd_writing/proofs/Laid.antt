@@ -19,9 +19,9 @@ use Rattle.refusals.specs.declared.Refusal.the-variants as R
 use Rattle.pmd.specs.declared.Piece.{Piece}
 use Rattle.pmd.specs.Table.{widthOf}
 use Rattle.pmd.specs.Records.{goesOn, onward, width, takes, after, closed, opened}
-use Rattle.pmd.specs.Lent.{prepend}
+use Rattle.refusals.specs.Lent.{prepend}
 use Rattle.pmd.specs.Writing.{writeFrom}
-use Rattle.pmd.proofs.Outcomes.{prepend-none, prepend-prepend, prepend-fine}
+use Rattle.refusals.proofs.Lent.{prepend-none, prepend-prepend, prepend-fine}
 use Rattle.pmd_rows.specs.declared.Row.{Row}
 use Rattle.pmd_rows.specs.Rows.{leftOf, Walkable}
 use Rattle.pmd_rows.proofs.Walk.{blank, left-next}

@@ -10,7 +10,7 @@ ghost use mathlib.Core.Bool.{cond};
 ghost use lib.ListN.{length};
 ghost use Rattle.refusals.specs.Outcomes.{answered};
 ghost use Rattle.pmd.specs.Table.{widthOf};
-ghost use Rattle.pmd.specs.Lent.{within, Delivered};
+ghost use Rattle.refusals.specs.Lent.{within, Delivered};
 ghost use Rattle.pmd.specs.Writing.{packing, writing};
 ghost use Rattle.pmd_rows.specs.Rows.{Walkable};
 ghost use Rattle.pmd_writing.specs.ByRow.{writeRow, fits, weight, Roomy};

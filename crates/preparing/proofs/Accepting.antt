@@ -14,18 +14,22 @@ use Rattle.pack.specs.Fixed.{itemCap, mappingCap}
 use Rattle.pack.specs.Config.{Mapping}
 use Rattle.pack.specs.Reading.{Read, reading, shown, slots, blank, padded}
 use Rattle.pack.specs.Meaning.{meant}
+use Rattle.pack.specs.Rows.{RowsFit}
+use Rattle.pack.proofs.Padded.{take-padded}
+use Rattle.pack.proofs.Rows.{rows-taken}
+use Rattle.layout.proofs.Shown.{rows-fit}
 use Rattle.kept.specs.Sheet.{Sheet}
 use Rattle.kept.specs.Kept.{kept}
 use Rattle.naming.specs.declared.Mark.{Mark}
 use Rattle.naming.specs.declared.Names.{Names}
-use Rattle.naming.specs.Marks.{flagsOf, marksOf, marked, Noted, RowsFit, PlacesFit}
+use Rattle.naming.specs.Marks.{flagsOf, marksOf, marked, Noted, PlacesFit}
 use Rattle.naming.specs.Given.{given, byIndex, EachBelow}
 use Rattle.framing.specs.Laid.{configSize}
 use Rattle.planning.specs.declared.Plan.{Plan}
 use Rattle.planning.specs.Planned.{Plans, RowsSmall, MarksFit}
 use Rattle.preparing.specs.declared.Prepared.{Prepared}
 use Rattle.preparing.specs.Ready.{Accepts, Ready}
-use Rattle.preparing.proofs.Shown.{slots-count, take-padded, places-fit, rows-fit, rows-small, places, places-count}
+use Rattle.preparing.proofs.Shown.{places-fit, rows-small, places, places-count}
 use Rattle.preparing.proofs.Preparing.{a, marks, order, marks-low, order-fits, few, few-labels, marks-fit, ready}
 
 module _ (s : List ℕ) (bytes : Bytes s) (shows : Reading) (count : ℕ) (g : Accepts s shows count) (sh : Sheet) where
@@ -36,7 +40,7 @@ module _ (s : List ℕ) (bytes : Bytes s) (shows : Reading) (count : ℕ) (g : A
   unfolding shown
   items-are =
       ap (λ (x : Reading). take count (x .items)) (g .struct)
-      ∙ take-padded itemCap blank (slots (r .body .parts)) count (g .counted ∙ sym (slots-count (r .body .parts)))
+      ∙ ap (λ (n : ℕ). take n (padded itemCap blank (slots (r .body .parts)))) (g .counted) ∙ rows-taken (r .body .parts)
 
   mapped-is : shows .mapped ≡ length (r .mappings)
   unfolding shown
@@ -53,7 +57,7 @@ module _ (s : List ℕ) (bytes : Bytes s) (shows : Reading) (count : ℕ) (g : A
   places-are : take (shows .mapped) (shows .labels) ≡ map (λ (m : Mapping). m .place) (r .mappings)
   places-are =
       ap₂ take mapped-is labels-are
-      ∙ take-padded mappingCap 0 (map (λ (m : Mapping). m .place) (r .mappings)) (length (r .mappings)) (sym (places-count s r (a s bytes r (g .is) sh)))
+      ∙ take-padded mappingCap 0 (map (λ (m : Mapping). m .place) (r .mappings)) (length (r .mappings)) (places-count s r (a s bytes r (g .is) sh))
 
   pub few-rows : count ≤ 64
   few-rows = let c = (a s bytes r (g .is) sh) .count in let e = g .counted in omega arith
@@ -67,7 +71,7 @@ module _ (s : List ℕ) (bytes : Bytes s) (shows : Reading) (count : ℕ) (g : A
 
   pub note-asks : RowsFit (take count (shows .items))
   note-asks =
-      let acc = a s bytes r (g .is) sh in rw items-are (rows-fit s (length (r .mappings)) (acc .mapped) (acc .small) (r .body .parts) (acc .parts))
+      let acc = a s bytes r (g .is) sh in rw items-are (rows-fit s (length (r .mappings)) (acc .mapped) (r .body .parts) (acc .parts))
 
   pub plan-asks : RowsSmall (take count (shows .items))
   plan-asks =
@@ -87,7 +91,7 @@ module _ (s : List ℕ) (bytes : Bytes s) (shows : Reading) (count : ℕ) (g : A
     pub index-asks : EachBelow mappingCap (take (nm .labels) (nm .order))
     index-asks =
         let o = order s bytes r (g .is) sh in
-        rw (ap (take (nm .labels)) (noted-is .order) ∙ take-padded itemCap 0 o (nm .labels) (noted-is .labels)) (order-fits s bytes r (g .is) sh)
+        rw (ap (take (nm .labels)) (noted-is .order) ∙ take-padded itemCap 0 o (nm .labels) (sym (noted-is .labels))) (order-fits s bytes r (g .is) sh)
 
     pub marks-ask : MarksFit (nm .marks)
     marks-ask =

@@ -15,6 +15,8 @@ use Rattle.pack.specs.Config.{Mapping}
 use Rattle.pack.specs.Items.{Part, countOf}
 use Rattle.pack.specs.Reading.{Read, reading, slots, padded}
 use Rattle.pack.specs.Meaning.{meantPart, meant}
+use Rattle.pack.proofs.Padded.{take-padded}
+use Rattle.pack.proofs.Rows.{slots-count}
 use Rattle.layout.specs.Layout.{Entry, configBytes, chunksBytes}
 use Rattle.layout.proofs.Bounds as B
 use Rattle.lists.specs.Those.{Each}
@@ -40,7 +42,7 @@ use Rattle.preparing.specs.Ready.{Ready}
 use Rattle.preparing.proofs.Flat.{newTag, PartLies, planBy, flat-items, rows-lie, total-size, ops-fit}
 use Rattle.preparing.proofs.Names.{at, MarkBelow, PartBelow, saying, saying-numbers, saying-labels, order-below, marks-say, marks-below, parts-planned}
 use Rattle.preparing.proofs.Tags.{freeTags, given-free, entries-assigned, index-assigned}
-use Rattle.preparing.proofs.Shown.{slots-count, take-padded, parts-below, labels, places, labels-count, places-count, labels-apart, flags-right, place-right}
+use Rattle.preparing.proofs.Shown.{parts-below, labels, places, labels-count, places-count, labels-apart, flags-right, place-right}
 use Rattle.preparing.proofs.Tagged.{parts-lie}
 
 -- ARRAYS
@@ -155,7 +157,7 @@ module _ (s : List ℕ) (bytes : Bytes s) (r : Read) (h : reading s ≡ fine r) 
   module _ (nm : Names) (noted : Noted marks nm) (tags index : List ℕ) (tagged : tags ≡ padded itemCap 0 (given (nm .taken) 0 (nm .labels)))
       (placed : index ≡ byIndex (take (nm .labels) (nm .order)) tags) (pl : Plan) (plans : Plans index rows (nm .marks) pl) where
     pub order-is : take (nm .labels) (nm .order) ≡ order
-    order-is = ap (take (nm .labels)) (noted .order) ∙ take-padded itemCap 0 order (nm .labels) (noted .labels)
+    order-is = ap (take (nm .labels)) (noted .order) ∙ take-padded itemCap 0 order (nm .labels) (sym (noted .labels))
 
     rest : List ℕ
     rest = replicate (itemCap - length (given (nm .taken) 0 (nm .labels))) 0

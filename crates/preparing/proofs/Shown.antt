@@ -1,12 +1,11 @@
 -- An accepted pack in the struct `Reading`: its rows, its labels, and what is known of them.
 -- Assumes nothing.
-use mathlib.Core.Path.{_≡_, refl, sym, ap, subst, _∙_}
+use mathlib.Core.Path.{_≡_, sym, ap, subst, _∙_}
 use mathlib.Core.List.{List, [], _∷_, _++_, map}
 use mathlib.Core.Bool.{false}
 use Prim.Native.Nat.{ℕ, zero, suc, _+_, _-_, _<_, _≤_}
 use native.Mathlib.Omega.{arith}
-use lib.ListN.{length, take, drop, getD, replicate, length-append, length-map, List·getD-append}
-use lib.Seq.{take-at}
+use lib.ListN.{length, take, drop, getD, replicate, length-map, List·getD-append}
 use Rattle.pack.specs.declared.Name.{Name}
 use Rattle.pack.specs.declared.Name.the-variants as N
 use Rattle.pack.specs.declared.Payload.{Payload}
@@ -16,7 +15,7 @@ use Rattle.pack.specs.Fixed.{mappingCap, packCap}
 use Rattle.pack.specs.Said.{label}
 use Rattle.pack.specs.Config.{Mapping}
 use Rattle.pack.specs.Config as C
-use Rattle.pack.specs.Items.{Part, one, many, countOf}
+use Rattle.pack.specs.Items.{Part, one, many}
 use Rattle.pack.specs.Reading.{Read, slot, slots, padded}
 use Rattle.layout.specs.Layout.{Entry}
 use Rattle.layout.specs.Well.{WellEntries}
@@ -27,23 +26,9 @@ use Rattle.lists.specs.Those.{Each}
 use Rattle.kept.specs.Sheet.{Sheet}
 use Rattle.kept.specs.Kept.{keeps}
 use Rattle.kept.proofs.Labels.{LabelsApart}
-use Rattle.naming.specs.Marks.{flagsOf, NameFits, RowsFit, PlacesFit}
+use Rattle.naming.specs.Marks.{flagsOf, PlacesFit}
 use Rattle.planning.specs.Planned.{RowsSmall}
 use Rattle.preparing.proofs.Names.{Below, PartBelow}
-
-pub slots-count : (ps : List Part) → length (slots ps) ≡ countOf ps
-unfolding slots countOf
-slots-count [] = refl
-slots-count (one x ∷ ps) = let i = slots-count ps in omega arith
-slots-count (many h xs ∷ ps) =
-    let i = slots-count ps in
-    let inners = map (λ (x : Payload). slot (I.Inner x)) xs in
-    let l : length inners ≡ length xs = length-map xs (λ (x : Payload). slot (I.Inner x)) in
-    let a = length-append inners (slots ps) in
-    omega arith
-
-pub take-padded : {A : Type 0} (n : ℕ) (d : A) (xs : List A) (k : ℕ) → k ≡ length xs → take k (padded n d xs) ≡ xs
-take-padded n d xs k e = take-at xs (replicate (n - length xs) d) k (sym e)
 
 getD-padded : {A : Type 0} (n : ℕ) (d : A) (xs : List A) (i : ℕ) (e : A) → i < length xs → getD (padded n d xs) i e ≡ getD xs i e
 getD-padded n d xs i e h = List·getD-append xs (replicate (n - length xs) d) e i h
@@ -56,10 +41,6 @@ entries-apart (m ∷ ms) w = (w .2, entries-apart ms (w .3))
 name-fits : (n k : ℕ) (x : Name) → n ≤ k → B.NameFits n x → Below n x
 name-fits n k (N.Label i) h f = f
 name-fits n k (N.Number t) h f = tt
-
-below-fits : (n : ℕ) (x : Name) → n ≤ mappingCap → Below n x → NameFits x
-below-fits n (N.Label i) h f = omega arith
-below-fits n (N.Number t) h f = tt
 
 -- a place of the labels that were read
 module _ (s : List ℕ) where
@@ -90,16 +71,6 @@ module _ (s : List ℕ) (n : ℕ) (few : n ≤ mappingCap) (small : length s ≤
   parts-below [] h = tt
   parts-below (one x ∷ ps) h = (name-fits n n (x .name) (omega arith) (h .0 .named), parts-below ps (h .1))
   parts-below (many hd xs ∷ ps) h = (each-below xs (h .0 .1), parts-below ps (h .1))
-
-  inners-fit : (xs : List Payload) (rest : List Slot) → Each (B.PayloadLies s n) xs → RowsFit rest → RowsFit (map (λ (x : Payload). slot (I.Inner x)) xs ++ rest)
-  inners-fit [] rest h g = g
-  inners-fit (x ∷ xs) rest h g = (below-fits n (x .name) few (name-fits n n (x .name) (omega arith) (h .0 .named)), inners-fit xs rest (h .1) g)
-
-  pub rows-fit : (ps : List Part) → Each (B.PartLies s n) ps → RowsFit (slots ps)
-  unfolding slots
-  rows-fit [] h = tt
-  rows-fit (one x ∷ ps) h = (below-fits n (x .name) few (name-fits n n (x .name) (omega arith) (h .0 .named)), rows-fit ps (h .1))
-  rows-fit (many hd xs ∷ ps) h = (tt, inners-fit xs (slots ps) (h .0 .1) (rows-fit ps (h .1)))
 
   value-small : (x : Payload) → B.PayloadLies s n x → x .«value_len» ≤ packCap
   value-small x h = let e = h .ends in omega arith

@@ -48,7 +48,7 @@ use Rattle.scrub.specs.Scrubs.{Scrubs}
 use Rattle.scrub.proofs.One as scrubs
 use Rattle.pmd.specs.Reading as pmd
 use Rattle.pmd.specs.Writing.{writing}
-use Rattle.pmd.specs.Lent.{within, Delivered}
+use Rattle.refusals.specs.Lent.{within, Delivered}
 use Rattle.pmd.specs.Gain.{levelOf}
 use Rattle.pmd.specs.declared.Level.{Level}
 use Rattle.pmd.proofs.RoundTrips as trips

@@ -1,7 +1,7 @@
 -- `ballastwren::bw_gain` meets its contract: each case of the level is told by its three numbers, and the half decibels fit 32 bits.
 -- Assumes nothing.
 use Prim.Native.Nat.{ℕ}
-use mathlib.Core.Path.{_≡_, sym, ap, _∙_}
+use mathlib.Core.Path.{sym, ap, _∙_}
 use borrow.Author.Needs.{needs}
 use lib.IntN.{ℤ, pos}
 use mir.Facts.{toZ-ofZ}

@@ -2,8 +2,8 @@
 -- Assumes nothing.
 use Prim.Native.Nat.{_-_}
 use borrow.Author.Needs.{needs}
-use Rattle.naming.proofs.Naming.{single-mark, inner-mark, sync-mark, single-fits, inner-fits}
-use borrow.Author.Needs.{needs}
+use Rattle.pack.proofs.Rows.{single-fits, inner-fits}
+use Rattle.naming.proofs.Naming.{single-mark, inner-mark, sync-mark}
 use Rattle.naming.proofs.mark_item.Statement.{statement}
 use Rattle.naming.proofs.mark_item.Tie as tie
 

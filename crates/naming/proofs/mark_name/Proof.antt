@@ -3,8 +3,8 @@
 use mathlib.Core.Path.{sym, _∙_}
 use Prim.Native.Nat.{_-_}
 use borrow.Author.Needs.{needs}
-use Rattle.naming.proofs.Naming.{label-stays, label-goes, number-stays, number-goes, label-fits}
-use borrow.Author.Needs.{needs}
+use Rattle.pack.proofs.Rows.{label-fits}
+use Rattle.naming.proofs.Naming.{label-stays, label-goes, number-stays, number-goes}
 use Rattle.naming.proofs.mark_name.Statement.{statement}
 use Rattle.naming.proofs.mark_name.Tie as tie
 

@@ -12,9 +12,11 @@ use lib.Seq.{length-take-le, getD-take}
 use borrow.Author.Needs.{needs}
 use borrow.Author.Tests.{not-true, not-false}
 use Rattle.pack.specs.declared.Slot.{Slot}
+use Rattle.pack.specs.Rows.{ItemFits}
+use Rattle.pack.proofs.Rows.{row-fits}
 use Rattle.sheet.specs.Judged.{asks}
-use Rattle.naming.specs.Marks.{markItem, ItemFits}
-use Rattle.naming.proofs.Noting.{Noting, noting-begins, noting-here, noting-few, noting-step, noting-ends, note-gone, note-outside, note-inside, note-seen, note-new, row-fits}
+use Rattle.naming.specs.Marks.{markItem}
+use Rattle.naming.proofs.Noting.{Noting, noting-begins, noting-here, noting-few, noting-step, noting-ends, note-gone, note-outside, note-inside, note-seen, note-new}
 use Rattle.naming.proofs.Naming.{mark-fits}
 use Rattle.naming.proofs.note.Statement.{statement}
 use Rattle.naming.proofs.note.Tie as tie

@@ -12,7 +12,7 @@ use Rattle.bits.proofs.Fields.{field-lt}
 use Rattle.pmd.specs.declared.Piece.{Piece}
 use Rattle.pmd.specs.Table.{widthOf, valueOf, mayHold}
 use Rattle.pmd.proofs.Fields.{width-some}
-use Rattle.pmd.proofs.Outcomes.{answers, counts}
+use Rattle.refusals.proofs.Lent.{answers, counts}
 use Rattle.refusals.specs.declared.Answer.the-variants as A
 use Rattle.pmd_rows.specs.declared.Row.{Row}
 use Rattle.pmd_rows.specs.Rows.{leftOf}

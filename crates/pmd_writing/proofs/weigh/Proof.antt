@@ -13,7 +13,7 @@ use Rattle.refusals.specs.declared.Answer.the-variants as A
 use Rattle.pmd.specs.declared.Piece.{Piece}
 use Rattle.pmd.specs.Table.{widthOf}
 use Rattle.pmd.proofs.Fields.{width-some}
-use Rattle.pmd.proofs.Outcomes.{answers, counts}
+use Rattle.refusals.proofs.Lent.{answers, counts}
 use Rattle.pmd_rows.specs.declared.Row.{Row}
 use Rattle.pmd_rows.specs.Rows.{leftOf}
 use Rattle.pmd_rows.proofs.Walk.{Records, Pieces, Fields, blank, wide-at, pieces-begin, fields-begin, fields-open, fields-on, pieces-on, pieces-over}

@@ -1,0 +1,5 @@
+pub mod Laws
+pub mod Whole
+pub mod Signs
+pub mod Worked
+pub mod One

@@ -1,0 +1,169 @@
+// The reading of a pack as rows of eight numbers in a lent run.
+ghost use mathlib.Core.Path.{_≡_};
+ghost use mathlib.Core.Bool.{cond};
+ghost use Prim.Native.Nat.{_+_, _*_, _≤_};
+ghost use lib.ListN.{length, take};
+ghost use Rattle.lists.specs.Over.{Wrote};
+ghost use Rattle.refusals.specs.Lent.{within, Delivered};
+ghost use Rattle.pack.specs.Rows.{NameFits, ItemFits, RowsFit};
+ghost use Rattle.rows.specs.Rows.{extended, packRow, payloadRow, itemRow, itemRows, rowsRead, numbersOf};
+use pack::Item;
+use pack::Name;
+use pack::Payload;
+use pack::Reading;
+use refusals::Answer;
+use refusals::Refusal;
+
+// A row: its form (0 a payload, 1 a Sync, 2 a payload inside the Sync above), where it starts, what it is named by (0 a number, 1 a label,
+// 2 for a Sync), the tag or where the label stands or how many payloads are inside, the stretch of its value, and a Sync's two numbers.
+pub struct Row {
+    pub form: u32,
+    pub start: u32,
+    pub named: u32,
+    pub name: u32,
+    pub value_start: u32,
+    pub value_len: u32,
+    pub offset: u32,
+    pub duration: u32,
+}
+
+// A signed number of 16 bits in two's complement of 32.
+fn extended(n: u16) -> u32
+    ensures { λ r. ⌜ r ≡ extended n ⌝ }
+{
+    if n < 0x8000 {
+        n as u32
+    } else {
+        0xFFFF0000 + n as u32
+    }
+}
+
+fn mark(crc: bool) -> u32
+    ensures { λ r. ⌜ r ≡ cond crc 1 0 ⌝ }
+{
+    if crc { 1 } else { 0 }
+}
+
+// The row of the pack: its offset, 1 where a CRC stood, and how many rows follow.
+fn pack_row(offset: u16, crc: bool, count: usize) -> Row
+    requires { ⌜ count ≤ 64 ⌝ }
+    ensures { λ r. ⌜ numbersOf r ≡ packRow offset crc count ⌝ }
+{
+    Row {
+        form: extended(offset),
+        start: mark(crc),
+        named: count as u32,
+        name: 0,
+        value_start: 0,
+        value_len: 0,
+        offset: 0,
+        duration: 0,
+    }
+}
+
+// The row of a payload. `places` says where the labels of the mappings stand in the pack.
+fn payload_row(places: &[u32; 32], form: u32, x: Payload) -> Row
+    requires { ⌜ NameFits (x .name) ⌝ }
+    ensures { λ r. ⌜ numbersOf r ≡ payloadRow (now (places .entry)) form (x .name) (x .start) (x .«value_start») (x .«value_len») ⌝ }
+{
+    let name = x.name;
+    match name {
+        Name::Number(tag) => Row {
+            form,
+            start: x.start,
+            named: 0,
+            name: tag,
+            value_start: x.value_start,
+            value_len: x.value_len,
+            offset: 0,
+            duration: 0,
+        },
+        Name::Label(i) => Row {
+            form,
+            start: x.start,
+            named: 1,
+            name: places[i as usize],
+            value_start: x.value_start,
+            value_len: x.value_len,
+            offset: 0,
+            duration: 0,
+        },
+    }
+}
+
+// The row of an item or inner payload.
+fn item_row(places: &[u32; 32], item: Item) -> Row
+    requires { ⌜ ItemFits item ⌝ }
+    ensures { λ r. ⌜ numbersOf r ≡ itemRow (now (places .entry)) item ⌝ }
+{
+    match item {
+        Item::Single(x) => payload_row(places, 0, x),
+        Item::Inner(x) => payload_row(places, 2, x),
+        Item::Sync(h) => Row {
+            form: 1,
+            start: h.start,
+            named: 2,
+            name: h.inside,
+            value_start: h.value_start,
+            value_len: h.value_len,
+            offset: extended(h.offset),
+            duration: h.duration as u32,
+        },
+    }
+}
+
+// Stores a row and answers the place after it.
+fn put_row(out: &mut [u32], at: usize, row: Row) -> usize
+    requires { ⌜ at + 8 ≤ length (now out) ⌝ }
+    ensures { λ r. ⌜ Wrote (now (out .entry)) at (numbersOf row) r (now (out .exit)) ⌝ }
+{
+    out[at] = row.form;
+    out[at + 1] = row.start;
+    out[at + 2] = row.named;
+    out[at + 3] = row.name;
+    out[at + 4] = row.value_start;
+    out[at + 5] = row.value_len;
+    out[at + 6] = row.offset;
+    out[at + 7] = row.duration;
+    at + 8
+}
+
+// Stores the first `count` rows of a reading.
+fn put_rows(out: &mut [u32], at: usize, found: Reading, count: usize) -> usize
+    requires { ⌜ (count ≤ 64) × (count ≤ length (found .items)) × RowsFit (take count (found .items)) × (at + 8 * count ≤ length (now out)) ⌝ }
+    ensures { λ r. ⌜ Wrote (now (out .entry)) at (itemRows (found .labels) (take count (found .items))) r (now (out .exit)) ⌝ }
+{
+    let places = found.labels;
+    let mut next = at;
+    let mut i: usize = 0;
+    while i < count {
+        let slot = found.items[i];
+        let item = slot.item;
+        let row = item_row(&places, item);
+        next = put_row(out, next, row);
+        i += 1;
+    }
+    next
+}
+
+// Reads a pack into `out`: the pack's row, then one for each item and inner payload in order. Answers how many numbers these are, or the refusal
+// and its place: those of the pack, then NOROOM. Numbers after them do not change; a refusal changes none.
+pub fn rows(pack: &[u8], out: &mut [u32]) -> Answer
+    ensures { λ r. ⌜ Delivered (within (length (now (out .entry))) (rowsRead (now (pack .entry)))) (now (out .entry)) r (now (out .exit)) ⌝ }
+{
+    let found = reader::read(pack);
+    let answer = found.answer;
+    let Answer::Done(count) = answer else {
+        return answer;
+    };
+    if out.len() < 8 * (1 + count) {
+        return Answer::Refused {
+            why: Refusal::NoRoom,
+            place: 0,
+        };
+    }
+    let first = pack_row(found.offset, found.crc, count);
+    let next = put_row(&mut *out, 0, first);
+    let end = put_rows(&mut *out, next, found, count);
+    Answer::Done(end)
+}
