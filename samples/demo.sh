@@ -56,14 +56,19 @@ prove() {
     else
         say 'Proving what the command calls. The first time takes some minutes; each crate is named when it is proved.'
     fi
-    make --no-print-directory lib
-    echo "Proved in $((SECONDS - start)) s."
+    mkdir -p target/demo
+    if ! make lib 2>&1 | tee target/demo/proof.log | sed -u -n 's/^rt: /  /p'; then
+        tail -n 20 target/demo/proof.log
+        echo 'The proof did not go through; target/demo/proof.log has all that was said.'
+        return 1
+    fi
+    echo "Proved in $((SECONDS - start)) s; target/demo/proof.log has all that was said."
 }
 
 if [[ $given ]]; then say "The archive is $given. Nothing is proved here."; else prove; fi
 say 'Compiling the command over the archive.'
 need_toolchain
-make --no-print-directory command CC="$CC" ARCHIVE="$ARCHIVE"
+make -s command CC="$CC" ARCHIVE="$ARCHIVE"
 mkdir -p "${OUT%/*}"
 rm -f "$OUT"
 

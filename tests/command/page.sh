@@ -48,3 +48,5 @@ check 'samples: made again' remade
 # listed FILE: README.md says what it shows.
 listed() { (cd samples && for file in */*; do grep -q "\b$file\b" README.md || { echo "$file"; exit 1; }; done); }
 check 'samples: each has its line' listed
+
+check 'demo: the old names are found before, and not after' gives 0 '*4 of 4 names found*0 of 4 names found*' '' samples/demo.sh

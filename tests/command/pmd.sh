@@ -35,10 +35,9 @@ check 'pmd read: not a kind' gives 2 '' '*APX: is not a kind: *' "$BW" pmd read 
 check 'pmd write: not a kind' gives 2 '' '*: is not a kind: *' "$BW" pmd write '' "$V/apn.txt"
 check 'pmd read: no such file' gives 2 '' '*: No such file or directory' "$BW" pmd read APN "$T/absent"
 
-check 'pmd read --json: APD' gives 0 '{"kind":1,"name":"APD","title":"Audio Presentation Description","records":[[]{"presentation":1,"speaker_config":4,"speakers":"5.1.4","langcod":5568,"language":"en","elements":[[]1,2,3]},{"presentation":2,"speaker_config":0,"speakers":"2.0","langcod":6721,"language":"fra","elements":[[]1]}]}' '' "$BW" pmd read --json APD "$V/apd.value"
-check 'pmd read --json: AOD' gives 0 '*"gain":51,"muted":false,"gain_db":0.0},{"element":3,"class":3,"class_name":"generic","dynamic":true,"x":1,"y":512,"z":1023,"size":31,"size_3d":true,"diverge":true,"source":4,"gain":0,"muted":true,"gain_db":null}]}' '' "$BW" pmd read --json AOD "$V/aod.value"
-check 'pmd read --json: XYZ' gives 0 '{"kind":4,"name":"XYZ","title":"Dynamic Position Update","sample_time":1,"records":[[]{"element":3,*' '' "$BW" pmd read --json XYZ "$V/xyz.value"
-check 'pmd read --json: a name with odd bytes' gives 0 '*"name":"quote \\" slash \\\\ tab \\u0009 bell \\u0007 bare \\uFFFD escape \\u001B[[]31m","name_hex":"71756F7465202220*"}]}' '' "$BW" pmd read --json APN "$V/apn-odd.value"
+for name in apd apn aod xyz aen esn apn-odd; do
+    check "pmd read --json: $name" writes "tests/command/json/$name.json" 0 '' "$BW" pmd read --json "${name%-*}" "$V/$name.value"
+done
 
 # back KIND TEXT: the text makes a value that reads as the text.
 back() {
@@ -62,49 +61,70 @@ for ((half = -51; half <= 12; half++)); do
 done
 check 'pmd: every gain' back AOD "$all"
 all=''
-for letters in {a..z}; do
-    all+="${all:+$'\n'}presentation 1 language $letters$letters name \"\""$'\n'"presentation 1 language a$letters$letters name \"\""
+for letter in {a..z}; do
+    for language in "$letter$letter" "a$letter$letter"; do all+="${all:+$'\n'}presentation 1 language $language name \"\""; done
 done
 check 'pmd: every letter' back APN "$all"
 check 'pmd: code 27' back APN 'presentation 1 language (27)a(27) name ""'
-check 'pmd: every byte of a name' back ESN "$(printf 'substream 15 name "'; for ((i = 1; i < 256; i++)); do
-    case $i in 34) printf '\\"' ;; 92) printf '\\\\' ;; *) if ((i > 31 && i < 127)); then printf "\\$(printf %o $i)"; else printf '\\x%02X' $i; fi ;; esac
-done; printf '"')"
-check 'pmd: controls of direction and of C1 are escaped' back ESN 'substream 1 name "é\xC2\x9B \xE2\x80\xAE € 𝄞 \xED\xA0\x80\xF4\x90\x80\x80\xC0\xAF"'
+all=''
+for ((i = 1; i < 256; i++)); do
+    printf -v byte '\\x%02X' $i
+    case $i in
+    34 | 92) printf -v byte '\\%b' "$byte" ;; # quote and backslash
+    *) ((i < 32 || i > 126)) || printf -v byte '%b' "$byte" ;;
+    esac
+    all+=$byte
+done
+check 'pmd: every byte of a name' back ESN "substream 15 name \"$all\""
+check 'pmd: controls of direction and of C1, and what is not UTF-8, are escaped' back ESN \
+    'substream 1 name "é\xC2\x9B \xE2\x80\xAE € 𝄞 \xED\xA0\x80\xF4\x90\x80\x80\xC0\xAF"'
 
 # lines KIND WANT TEXT: a bad line is told with its number.
 lines() {
     printf '%b' "$3" >"$T/text"
     gives 1 '' "ballastwren: $T/text: refused: $2" "$BW" pmd write "$1" "$T/text"
 }
-check 'pmd write: another field is due' lines APN "FIELD (17) at line 2: 'lang' stands where language is due" 'presentation 1 language en name "a"\npresentation 1 lang en name "b"\n'
-check 'pmd write: the line ends' lines APN 'BITS (16) at line 1: the line ends where name is due' 'presentation 1 language en # name "x"\n'
-check 'pmd write: something after a record' lines APN "FIELD (17) at line 1: 'x' stands where the end of the line is due" 'presentation 1 language en name "a" x\n'
-check 'pmd write: no such layout' lines APD "FIELD (17) at line 1: '6.1' stands where a speaker layout*" 'presentation 1 speakers 6.1 language en elements none\n'
-check 'pmd write: no such language' lines APN "FIELD (17) at line 1: 'e' stands where a language*" 'presentation 1 language e name "a"\n'
-check 'pmd write: capitals are no language' lines APN "FIELD (17)*'EN'*" 'presentation 1 language EN name "a"\n'
-check 'pmd write: four letters' lines APN "FIELD (17)*'engl'*" 'presentation 1 language engl name "a"\n'
-check 'pmd write: a name without quotes' lines ESN "FIELD (17) at line 1: 'a' stands where a name*" 'substream 1 name a\n'
-check 'pmd write: a name that never closes' lines ESN 'BITS (16) at line 1: *the closing double quote is due' 'substream 1 name "a\n'
-check 'pmd write: an unknown escape' lines ESN 'FIELD (17) at line 1: *' 'substream 1 name "\\n"\n'
-check 'pmd write: an escaped byte 0' lines ESN 'FIELD (17) at line 1: *' 'substream 1 name "\\x00"\n'
-check 'pmd write: a bare byte 0' lines ESN 'FIELD (17) at line 1: *not 0*' 'substream 1 name "a\0b"\n'
-check 'pmd write: a gain out of range' lines AOD "FIELD (17) at line 1: '+6.5' stands where muted*" 'element 1 class dialog dynamic no x 1 y 1 z 1 size 0 size_3d no diverge no source 0 gain +6.5 dB\n'
-check 'pmd write: a gain between steps' lines AOD "FIELD (17)*'0.3'*" 'element 1 class dialog dynamic no x 1 y 1 z 1 size 0 size_3d no diverge no source 0 gain 0.3 dB\n'
-check 'pmd write: a gain without dB' lines AOD 'BITS (16) at line 1: the line ends where dB is due' 'element 1 class dialog dynamic no x 1 y 1 z 1 size 0 size_3d no diverge no source 0 gain 0\n'
-check 'pmd write: element 0 in a list' lines APD "FIELD (17) at line 1: '0' stands where an element id*" 'presentation 1 speakers 2.0 language en elements 1 0 2\n'
-check 'pmd write: elements of nothing' lines APD 'BITS (16) at line 1: *' 'presentation 1 speakers 2.0 language en elements\n'
+# line KIND WANT TEXT: the same with a text of one line.
+line() { lines "$1" "${2/LINE/at line 1:}" "$3\n"; }
+object='element 1 class dialog dynamic no x 1 y 1 z 1 size 0 size_3d no diverge no source 0 gain'
+check 'pmd write: another field is due' lines APN "FIELD (17) at line 2: 'lang' stands where language is due" \
+    'presentation 1 language en name "a"\npresentation 1 lang en name "b"\n'
+check 'pmd write: the line ends' line APN 'BITS (16) LINE the line ends where name is due' 'presentation 1 language en # name "x"'
+check 'pmd write: something after a record' line APN "FIELD (17) LINE 'x' stands where the end of the line is due" \
+    'presentation 1 language en name "a" x'
+check 'pmd write: no such layout' line APD "FIELD (17) LINE '6.1' stands where a speaker layout*" \
+    'presentation 1 speakers 6.1 language en elements none'
+check 'pmd write: no such language' line APN "FIELD (17) LINE 'e' stands where a language*" 'presentation 1 language e name "a"'
+check 'pmd write: capitals are no language' line APN "FIELD (17) LINE 'EN'*" 'presentation 1 language EN name "a"'
+check 'pmd write: four letters' line APN "FIELD (17) LINE 'engl'*" 'presentation 1 language engl name "a"'
+check 'pmd write: a name without quotes' line ESN "FIELD (17) LINE 'a' stands where a name*" 'substream 1 name a'
+check 'pmd write: a name that never closes' line ESN 'BITS (16) LINE *the closing double quote is due' 'substream 1 name "a'
+check 'pmd write: an unknown escape' line ESN 'FIELD (17) LINE *' 'substream 1 name "\\n"'
+check 'pmd write: half an escape' line ESN 'FIELD (17) LINE *' 'substream 1 name "\\x4'
+check 'pmd write: an escaped byte 0' line ESN 'FIELD (17) LINE *' 'substream 1 name "\\x00"'
+check 'pmd write: a bare byte 0' line ESN 'FIELD (17) LINE *not 0*' 'substream 1 name "a\0b"'
+check 'pmd write: a gain out of range' line AOD "FIELD (17) LINE '+6.5' stands where muted*" "$object +6.5 dB"
+check 'pmd write: a gain between steps' line AOD "FIELD (17) LINE '0.3'*" "$object 0.3 dB"
+check 'pmd write: a gain without dB' line AOD 'BITS (16) LINE the line ends where dB is due' "$object 0"
+check 'pmd write: element 0 in a list' line APD "FIELD (17) LINE '0' stands where an element id*" \
+    'presentation 1 speakers 2.0 language en elements 1 0 2'
+check 'pmd write: elements of nothing' line APD 'BITS (16) LINE *' 'presentation 1 speakers 2.0 language en elements'
 check 'pmd write: a reserved id, told by line' lines AEN 'FIELD (17) at line 3: a reserved value*' '\nelement 1 name "a"\nelement 0 name "b"\n'
 check 'pmd write: a number too wide, told by line' lines AEN 'FIELD (17) at line 2: *' 'element 4095 name ""\nelement 4096 name ""\n'
 check 'pmd write: a number wider than 32 bits' lines AEN 'FIELD (17) at line 1: *' 'element 4294967297 name ""\n'
 check 'pmd write: no record' lines XYZ 'BITS (16) at number 1: *' 'sample_time 5\n'
 check 'pmd write: nothing' lines XYZ 'BITS (16) at number 0: *' '# nothing\n'
-check 'pmd write: comments and blanks' gives 0 '*' '' sh -c "printf '# a\n\n substream 1 name \"#\" # b\n' | '$BW' pmd write ESN | '$BW' pmd read ESN - | grep -qx 'substream 1 name \"#\"'"
-check 'pmd write: NOROOM' gives 1 '' '*NOROOM (15) at number 0: *' sh -c "head -c 4096 /dev/zero | tr '\0' a | sed 's/.*/substream 1 name \"&\"/' | '$BW' pmd write ESN"
-check 'pmd write: a text without end is cut off' gives 1 '' '*BIG (1) at line 0: a text has at most*' "$BW" pmd write ESN /dev/zero
-check 'pmd write --numbers: FIELD at an index' gives 1 '' '*FIELD (17) at number 4: *' sh -c "echo 1 65 0 2 256 0 | '$BW' pmd write --numbers ESN"
-check 'pmd write --numbers: a list that ends early' gives 1 '' '*BITS (16) at number 2: *' sh -c "echo 1 65 | '$BW' pmd write --numbers ESN"
-check 'pmd write --numbers: not a number' gives 1 '' "*FIELD (17) at line 2: '-1' stands where a number is due" sh -c "printf '1\n-1\n' | '$BW' pmd write --numbers ESN"
+printf '# a\n\n substream 1\tname "#" # b\r\n' >"$T/text" && bytes 123000 >"$T/want"
+check 'pmd write: comments and blanks' writes "$T/want" 0 '' "$BW" pmd write ESN "$T/text"
+printf 'substream 1 name "%s"\n' "$(head -c 4096 /dev/zero | tr '\0' a)" >"$T/text"
+check 'pmd write: NOROOM' gives 1 '' '*NOROOM (15) at number 0: *' "$BW" pmd write ESN "$T/text"
+check 'pmd write: a text without end is cut off' gives 1 '' '*BIG (1) at line 0: a text has at most*' \
+    "$BW" pmd write ESN /dev/zero
+# bare WANT TEXT: a bad list of bare numbers.
+bare() { printf '%b' "$2" >"$T/text" && gives 1 '' "*: refused: $1" "$BW" pmd write --numbers ESN "$T/text"; }
+check 'pmd write --numbers: FIELD at an index' bare 'FIELD (17) at number 4: *' '1 65 0\n2 256 0\n'
+check 'pmd write --numbers: a list that ends early' bare 'BITS (16) at number 2: *' '1 65\n'
+check 'pmd write --numbers: not a number' bare "FIELD (17) at line 2: '-1' stands where a number is due" '1\n-1\n'
 
 check 'pmd find: every kind, in and out of Syncs' gives 0 "PMD Version at byte 160, value bytes: 2
   values of this kind are not decoded
@@ -120,11 +140,13 @@ XYZ Dynamic Position Update at byte *, in the Sync at byte *
   sample_time 1
 *" '' "$BW" pmd find "$SAMPLES/packs/each-kind.pack"
 check 'pmd find --numbers' gives 0 $'*ESN*\n  1 65 0\nAOD*' '' "$BW" pmd find --numbers "$SAMPLES/packs/each-kind.pack"
-check 'pmd find --json' gives 0 '[[]{"start":160,"sync":null,"label":"060E2B340401010D0404020400000000","title":"PMD Version","value_start":162,"value_length":2},*"kind":4,"name":"XYZ","sample_time":1,"records":[[]*]}]' '' "$BW" pmd find --json "$SAMPLES/packs/each-kind.pack"
-check 'pmd find: a value that is refused' gives 1 $'APN*\n  refused 16 264\nAPN*name "Main mix"*' '*bad-value.pack: payload at byte 38: refused: BITS (16) at bit 264: *' "$BW" pmd find "$SAMPLES/packs/bad-value.pack"
-check 'pmd find --json: a value that is refused' gives 1 '*"refused":{"name":"BITS","number":16,"place":264}},*"records"*]' '*BITS (16)*' "$BW" pmd find --json "$SAMPLES/packs/bad-value.pack"
+check 'pmd find --json' writes tests/command/json/each-kind.json 0 '' "$BW" pmd find --json "$SAMPLES/packs/each-kind.pack"
+check 'pmd find: a value that is refused' gives 1 $'APN*\n  refused 16 264\nAPN*name "Main mix"*' '*bad-value.pack: payload at byte 38: refused: BITS (16) at bit 264: *' \
+    "$BW" pmd find "$SAMPLES/packs/bad-value.pack"
+check 'pmd find --json: a value that is refused' writes tests/command/json/bad-value.json 1 '*BITS (16)*' \
+    "$BW" pmd find --json "$SAMPLES/packs/bad-value.pack"
 check 'pmd find: a pack without PMD' gives 0 '' '' "$BW" pmd find "$SAMPLES/packs/number.pack"
-check 'pmd find --json: a pack without PMD' gives 0 '[[]]' '' "$BW" pmd find --json "$SAMPLES/packs/number.pack"
+check 'pmd find --json: a pack without PMD' writes tests/command/json/number.json 0 '' "$BW" pmd find --json "$SAMPLES/packs/number.pack"
 check 'pmd find: a pack that is refused' gives 1 '' '*CRC (13) at byte 20: *' "$BW" pmd find "$SAMPLES/packs/refused-crc.pack"
 
 # nameless FILE: no PMD payload has a name in it.

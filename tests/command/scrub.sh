@@ -15,14 +15,21 @@ bytes "$KEY" 09 0501AA 0304 DAE95B7A >"$T/kept"
 check 'scrub: the bench example' scrubbed "$T/kept" "$ALL" "$SAMPLES/packs/number.pack"
 check 'scrub: a longer length form leaves no trace' scrubbed "$T/kept" "$ALL" "$SAMPLES/packs/long-length.pack"
 "$BW" scrub --sheet "$RACK" "$SAMPLES/packs/incident.pack" "$T/clean"
-check 'scrub: the incident' gives 0 $'pack -48 6 good\nlabel 90 *0400000000 2\nlabel 94 *0700000000 17\nlabel 113 *0600000000 17\nnumber 132 70 4\nsync 138 480 1920 1\nlabel 144 *0D00000000 12' '' \
-    "$BW" list "$T/clean"
+check 'scrub: the incident' gives 0 'pack -48 6 good
+label 90 060E2B340401010D0404020400000000 2
+label 94 060E2B340401010D0404020700000000 17
+label 113 060E2B340401010D0404020600000000 17
+number 132 70 4
+sync 138 480 1920 1
+label 144 060E2B340401010D0404020D00000000 12' '' "$BW" list "$T/clean"
 check 'scrub: again gives the same pack' scrubbed "$T/clean" "$RACK" "$T/clean"
 "$BW" scrub --sheet "$NONE" "$SAMPLES/packs/incident.pack" "$T/none"
 check 'scrub: nothing kept' gives 0 'pack -48 0 good' '' "$BW" list "$T/none"
 check 'scrub: to standard output' writes "$T/clean" 0 '' "$BW" scrub --sheet "$RACK" "$SAMPLES/packs/incident.pack" -
-check 'scrub: the pack on standard input' writes "$T/clean" 0 '' from "$SAMPLES/packs/incident.pack" "$BW" scrub --sheet "$RACK" - -
-check 'scrub: the sheet on standard input' writes "$T/clean" 0 '' from "$RACK" "$BW" scrub --sheet - "$SAMPLES/packs/incident.pack" -
+check 'scrub: the pack on standard input' writes "$T/clean" 0 '' \
+    from "$SAMPLES/packs/incident.pack" "$BW" scrub --sheet "$RACK" - -
+check 'scrub: the sheet on standard input' writes "$T/clean" 0 '' \
+    from "$RACK" "$BW" scrub --sheet - "$SAMPLES/packs/incident.pack" -
 
 # refused_scrub ERR WORDS...: refused, and OUT is not there.
 refused_scrub() {
@@ -66,7 +73,8 @@ What is proved, of ballastwren $VERSION
 *" '' cat "$T/a.report"
 # Only the CRC of the written pack is that of the report: the last four bytes.
 check 'report: its CRC is the written one' gives 0 '9122acbe' '' sh -c "tail -c 4 '$T/a.pack' | od -An -v -tx1 | tr -d ' \n'"
-check 'report: nothing kept' gives 0 '*Items kept*  none*' '' "$BW" scrub --report --sheet "$NONE" "$SAMPLES/packs/incident.pack" "$T/none"
+check 'report: nothing kept' gives 0 '*Items kept*  none*' '' \
+    "$BW" scrub --report --sheet "$NONE" "$SAMPLES/packs/incident.pack" "$T/none"
 check 'report: all kept' gives 0 '*keep all*' '' "$BW" scrub --report --sheet "$ALL" "$SAMPLES/packs/sync.pack" "$T/all"
 check 'report: OUT must be a regular file' gives 2 '' '*null: a report is made by reading OUT back*' \
     "$BW" scrub --report --sheet "$ALL" "$SAMPLES/packs/sync.pack" /dev/null
@@ -74,8 +82,9 @@ check 'report: OUT must be a regular file' gives 2 '' '*null: a report is made b
 # theorems: each theorem that the report names stands on the page of promises.
 theorems() {
     local name
-    for name in kept-whole kept-only read-back same-kept-same-buffer no-trace; do
-        grep -q -- "$name" "$T/a.report" && grep -q "^pub $name :" crates/promises/proofs/Promises.antt || { echo "$name"; return 1; }
+    for name in kept-whole kept-in-place kept-only read-back same-kept-same-buffer no-trace; do
+        grep -q -- "$name" "$T/a.report" || { echo "$name is not in the report"; return 1; }
+        grep -q "^ *pub $name :" crates/promises/proofs/Promises.antt || { echo "$name is not promised"; return 1; }
     done
 }
 check 'report: the theorems that it names are promised' theorems

@@ -14,7 +14,8 @@ check 'sheet show: labels, titles, numbers' gives 0 $'label 060E2B340401010D0404
     "$BW" sheet show "$SAMPLES/sheets/rack.sheet"
 check 'sheet show: keep all' gives 0 'keep all' '' "$BW" sheet show "$SAMPLES/sheets/keep-all.sheet"
 check 'sheet show: keep none' gives 0 'keep none' '' "$BW" sheet show "$SAMPLES/sheets/keep-none.sheet"
-check 'sheet show: SHEET' gives 1 '' '*refused.sheet: refused: SHEET (14) at byte 0: *' "$BW" sheet show "$SAMPLES/sheets/refused.sheet"
+check 'sheet show: SHEET' gives 1 '' '*refused.sheet: refused: SHEET (14) at byte 0: *' \
+    "$BW" sheet show "$SAMPLES/sheets/refused.sheet"
 check 'sheet show: a text is not a sheet' gives 1 '' '*SHEET (14)*sheet make*' "$BW" sheet show "$SAMPLES/sheets/rack.txt"
 check 'sheet show: a file without end' gives 1 '' '*SHEET (14)*' "$BW" sheet show /dev/zero
 

@@ -1,4 +1,5 @@
 # shellcheck shell=bash
+# shellcheck disable=SC2034  # used by the parts
 # Sourced by run.sh: the programs under test, and how an outcome is compared.
 
 T=$(mktemp -d) || exit 2
@@ -27,6 +28,7 @@ starter() {
 
 build_all() {
     local wraps=(read write pread fsync fchmod close rename)
+    rm -f target/tools/ballastwren # it may be over another archive
     compile "$T/command.bin" &&
         compile "$T/failing.bin" "${wraps[@]/#/-Wl,--wrap=}" tests/command/fail.c &&
         starter "$BW" "$T/command.bin" && starter "$FAILING" "$T/failing.bin" &&

@@ -21,9 +21,11 @@ check 'an option of another subcommand' gives 2 '' '*--report: no such option*' 
 check 'an operand missing' gives 2 '' '*check: an operand is missing*' "$BW" check
 check 'an operand too many' gives 2 '' '*b: one operand too many*' "$BW" list a b
 check 'scrub without a sheet' gives 2 '' '*--sheet SHEET is missing*' "$BW" scrub "$PACK" "$T/x"
-check '--sheet without its file' gives 2 '' '*--sheet: no such option here, or it lacks its argument*' "$BW" scrub "$PACK" "$T/x" --sheet
+check '--sheet without its file' gives 2 '' '*--sheet: no such option here, or it lacks its argument*' \
+    "$BW" scrub "$PACK" "$T/x" --sheet
 check '--report with standard output' gives 2 '' '*--report: OUT must be a file*' "$BW" scrub --sheet "$SHEET" --report "$PACK" -
-check '--numbers with --json' gives 2 '' '*--json: does not go with --numbers*' "$BW" pmd read --numbers --json APN "$SAMPLES/values/apn.value"
+check '--numbers with --json' gives 2 '' '*--json: does not go with --numbers*' \
+    "$BW" pmd read --numbers --json APN "$SAMPLES/values/apn.value"
 check 'standard input twice' gives 2 '' '*standard input can be read only once*' "$BW" check - -
 check 'standard input as sheet and pack' gives 2 '' '*only once*' "$BW" scrub --sheet - - "$T/x"
 check '-- ends options' gives 2 '' '*--help: No such file or directory' "$BW" check -- --help
