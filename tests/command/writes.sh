@@ -71,6 +71,7 @@ check 'write: over the pack by a link' over "$BW" scrub --sheet "$T/in/sheet" "$
 check 'write: over the pack by a second name' over "$BW" scrub --sheet "$T/in/sheet" "$T/in/pack" "$W/hard"
 check 'write: over the pack by another path' over "$BW" scrub --sheet "$T/in/sheet" "$T/in/pack" "$T/folder/../in/./pack"
 check 'write: over the pack on standard input' over from "$T/in/pack" "$BW" scrub --sheet "$T/in/sheet" - "$T/in/pack"
+# shellcheck disable=SC2094  # that it reads and writes one file is the point
 appended() { "$BW" scrub --sheet "$T/in/sheet" "$T/in/pack" - >>"$T/in/pack"; }
 check 'write: over the pack by standard output' over appended
 cp "$SAMPLES/sheets/rack.txt" "$T/in/text"
