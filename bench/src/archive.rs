@@ -12,6 +12,8 @@ pub struct Answer {
 
 extern "C" {
     fn bw_check(pack: *const u8, pack_len: usize) -> Answer;
+    fn bw_read(pack: *const u8, pack_len: usize, rows: *mut u32, rows_len: usize) -> Answer;
+    fn bw_scrub(sheet: *const u8, sheet_len: usize, pack: *const u8, pack_len: usize, out: *mut u8, out_len: usize) -> Answer;
     fn bw_pmd_read(kind: u32, value: *const u8, value_len: usize, numbers: *mut u32, numbers_len: usize) -> Answer;
     fn bw_pmd_write(kind: u32, numbers: *const u32, numbers_len: usize, out: *mut u8, out_len: usize) -> Answer;
 }
@@ -19,6 +21,16 @@ extern "C" {
 pub fn check(pack: &[u8]) -> Answer {
     // SAFETY: the range is that of a slice, and the function only reads it.
     unsafe { bw_check(pack.as_ptr(), pack.len()) }
+}
+
+pub fn read(pack: &[u8], rows: &mut [u32]) -> Answer {
+    // SAFETY: both ranges are those of slices, and only the second, which nothing else holds, is written.
+    unsafe { bw_read(pack.as_ptr(), pack.len(), rows.as_mut_ptr(), rows.len()) }
+}
+
+pub fn scrub(sheet: &[u8], pack: &[u8], out: &mut [u8]) -> Answer {
+    // SAFETY: the ranges are those of slices, and only the last, which nothing else holds, is written.
+    unsafe { bw_scrub(sheet.as_ptr(), sheet.len(), pack.as_ptr(), pack.len(), out.as_mut_ptr(), out.len()) }
 }
 
 pub fn pmd_read(kind: u32, value: &[u8], numbers: &mut [u32]) -> Answer {

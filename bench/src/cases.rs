@@ -9,6 +9,12 @@ pub struct Pack {
     pub bytes: Vec<u8>,
 }
 
+pub struct Scrub {
+    pub name: String,
+    pub sheet: Vec<u8>,
+    pub pack: Vec<u8>,
+}
+
 pub struct Value {
     pub name: &'static str,
     pub kind: u32,
@@ -61,6 +67,26 @@ pub fn packs() -> Vec<Pack> {
     packs.push(pack("60 payloads of 500 bytes".into(), &payloads(60, 500)));
     packs.push(pack("20 Syncs of two payloads".into(), &syncs(20)));
     packs
+}
+
+/// A sheet of numbers.
+fn sheet(numbers: impl Iterator<Item = u32>) -> Vec<u8> {
+    let entries: Vec<u8> = numbers.flat_map(u32::to_be_bytes).collect();
+    [&[0, 0, 0, 8, 0, entries.len() as u8 / 4, 0, 8], entries.as_slice()].concat()
+}
+
+/// Each pack by three sheets: keep all, every other of the tags that its payloads have, none.
+pub fn scrubs() -> Vec<Scrub> {
+    let packs = [("40 payloads of 12 bytes", payloads(40, 12)), ("60 payloads of 500 bytes", payloads(60, 500)), ("20 Syncs of two payloads", syncs(20))];
+    let sheets = [("all", Vec::new()), ("half", sheet((64..96).step_by(2))), ("none", sheet(0..0))];
+    let mut scrubs = Vec::new();
+    for (name, body) in packs {
+        for (kept, sheet) in &sheets {
+            let name = format!("keep {kept}, {name}");
+            scrubs.push(Scrub { name: name.clone(), sheet: sheet.clone(), pack: pack(name, &body).bytes });
+        }
+    }
+    scrubs
 }
 
 fn value(name: &'static str, kind: u32, numbers: Vec<u32>) -> Value {

@@ -92,8 +92,41 @@ fn check(case: &cases::Pack) {
     report(&name, times);
 }
 
+/// The numbers of the largest reading: the pack's row and 64 more, of eight numbers each.
+const ROWS: usize = 8 * 65;
+
+fn read(case: &cases::Pack) {
+    let name = format!("read, {}", case.name);
+    let mut ours = vec![7; ROWS];
+    let mut theirs = ours.clone();
+    agree(&name, archive::read(&case.bytes, &mut ours), archive::told(reference::rows(&case.bytes, &mut theirs)));
+    agree(&name, &ours, &theirs);
+    let times = race(
+        || { let _ = black_box(archive::read(black_box(&case.bytes), &mut ours)); },
+        || { let _ = black_box(reference::rows(black_box(&case.bytes), &mut theirs)); },
+    );
+    report(&name, times);
+}
+
+/// The buffer has room for what goes in and its CRC.
+fn scrub(case: &cases::Scrub) {
+    let name = format!("scrub, {}", case.name);
+    let mut ours = vec![7; case.pack.len() + 6];
+    let mut theirs = ours.clone();
+    agree(&name, archive::scrub(&case.sheet, &case.pack, &mut ours), archive::told(reference::scrub(&case.sheet, &case.pack, &mut theirs)));
+    agree(&name, &ours, &theirs);
+    let times = race(
+        || { let _ = black_box(archive::scrub(black_box(&case.sheet), black_box(&case.pack), &mut ours)); },
+        || { let _ = black_box(reference::scrub(black_box(&case.sheet), black_box(&case.pack), &mut theirs)); },
+    );
+    report(&name, times);
+}
+
 fn main() {
-    cases::packs().iter().for_each(check);
+    let packs = cases::packs();
+    packs.iter().for_each(check);
+    packs.iter().for_each(read);
+    cases::scrubs().iter().for_each(scrub);
     let values = cases::values();
     values.iter().for_each(pmd_read);
     values.iter().for_each(pmd_write);

@@ -79,8 +79,8 @@ fn mark_item(s: &[u8], asked: Asked, flags: [bool; 32], item: Item) -> Mark
             mark_name(s, asked, flags, name)
         }
         Item::Inner(x) => {
-            let name = x.name;
-            mark_name(s, asked, flags, name)
+            let inner = x.name;
+            mark_name(s, asked, flags, inner)
         }
         Item::Sync(_) => Mark::Gone,
     }
