@@ -14,7 +14,8 @@ pub fn text(s: &[u8]) {
     io::write_all(STDOUT_FILENO, s);
 }
 
-fn decimal(n: u64) {
+// A number in decimal.
+pub fn decimal(n: u64) {
     io::print_decimal(STDOUT_FILENO, n);
 }
 
@@ -38,6 +39,21 @@ fn byte(b: u8) {
     io::print_hex(STDOUT_FILENO, b as u64, 2);
 }
 
+// The bytes of a run in hexadecimal, a space before each.
+pub fn bytes(s: &[u8]) {
+    let mut i: usize = 0;
+    while i < s.len() {
+        text(b" ");
+        byte(s[i]);
+        i += 1;
+    }
+}
+
+// The CRC of a run.
+pub fn crc(s: &[u8]) {
+    io::print_hex(STDOUT_FILENO, wide(crc::crc(s)), 8);
+}
+
 // A refusal: its number in document 01 and its place.
 pub fn refused(why: Refusal, place: usize) {
     number(b"refused ", refusals::number(why));
@@ -56,7 +72,7 @@ pub fn told(answer: Answer) {
 // The CRC of a run, at the end of a line.
 pub fn crc_of(s: &[u8]) {
     text(b", crc ");
-    io::print_hex(STDOUT_FILENO, wide(crc::crc(s)), 8);
+    crc(s);
     text(b"\n");
 }
 
@@ -70,12 +86,7 @@ fn shown(n: usize) -> usize
 // The first bytes of a run.
 pub fn shown_bytes(s: &[u8]) {
     let end = shown(s.len());
-    let mut i: usize = 0;
-    while i < end {
-        text(b" ");
-        byte(s[i]);
-        i += 1;
-    }
+    bytes(&s[0..end]);
 }
 
 // The first numbers of a run.
