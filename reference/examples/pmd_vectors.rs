@@ -12,10 +12,10 @@
 //! part is a number of 2 bytes, how often it stands there, its length in 2 bytes and its bytes.
 //! Numbers are most significant byte first, and the input of a `w` is numbers of 4 bytes.
 
-use std::fs;
-use std::path::{Path, PathBuf};
+mod shared;
 
 use reference::{crc::crc, gain, pmd_read, pmd_write, Gain, Refusal};
+use shared::Made;
 
 /// What lent runs hold before the call: more than any field.
 const LENT_NUMBER: u32 = 99_999;
@@ -34,21 +34,11 @@ struct Field {
 }
 
 const fn field(width: u32, good: &'static [u32], reserved: &'static [u32]) -> Field {
-    Field {
-        width,
-        good,
-        reserved,
-        until_zero: false,
-    }
+    Field { width, good, reserved, until_zero: false }
 }
 
 const fn until_zero(width: u32, good: &'static [u32]) -> Field {
-    Field {
-        width,
-        good,
-        reserved: &[],
-        until_zero: true,
-    }
+    Field { width, good, reserved: &[], until_zero: true }
 }
 
 /// A langcod of these groups.
@@ -60,20 +50,8 @@ const PRESENTATION: Field = field(9, &[1, 511, 256], &[0]);
 const SPEAKER_CONFIG: Field = field(5, &[0, 6, 29, 31], &[7, 28]);
 const LANGCOD: Field = field(
     15,
-    &[
-        groups(5, 14, 0),
-        groups(1, 1, 1),
-        groups(27, 27, 27),
-        groups(27, 1, 0),
-    ],
-    &[
-        groups(0, 1, 1),
-        groups(1, 0, 1),
-        groups(28, 1, 1),
-        groups(1, 28, 1),
-        groups(1, 1, 28),
-        0,
-    ],
+    &[groups(5, 14, 0), groups(1, 1, 1), groups(27, 27, 27), groups(27, 1, 0)],
+    &[groups(0, 1, 1), groups(1, 0, 1), groups(28, 1, 1), groups(1, 28, 1), groups(1, 1, 28), 0],
 );
 const ELEMENT: Field = field(12, &[1, 4095, 2048], &[0]);
 const ELEMENTS: Field = until_zero(12, &[4095, 1, 2048]);
@@ -101,12 +79,7 @@ const KINDS: [Kind; 6] = [
         head: &[],
         record: &[PRESENTATION, SPEAKER_CONFIG, LANGCOD, ELEMENTS],
     },
-    Kind {
-        number: 2,
-        name: "apn",
-        head: &[],
-        record: &[PRESENTATION, LANGCOD, NAME],
-    },
+    Kind { number: 2, name: "apn", head: &[], record: &[PRESENTATION, LANGCOD, NAME] },
     Kind {
         number: 3,
         name: "aod",
@@ -122,18 +95,8 @@ const KINDS: [Kind; 6] = [
         head: &[SAMPLE_TIME],
         record: &[ELEMENT, COORDINATE, COORDINATE, COORDINATE],
     },
-    Kind {
-        number: 5,
-        name: "aen",
-        head: &[],
-        record: &[ELEMENT, NAME],
-    },
-    Kind {
-        number: 6,
-        name: "esn",
-        head: &[],
-        record: &[SUBSTREAM, NAME],
-    },
+    Kind { number: 5, name: "aen", head: &[], record: &[ELEMENT, NAME] },
+    Kind { number: 6, name: "esn", head: &[], record: &[SUBSTREAM, NAME] },
 ];
 
 /// A number and the field that it is for.
@@ -188,9 +151,7 @@ fn packed(list: &[Told]) -> Vec<u8> {
         bits.extend((0..f.width).rev().map(|k| number >> k & 1 == 1));
     }
     bits.resize(bits.len().next_multiple_of(8), false);
-    bits.chunks(8)
-        .map(|byte| byte.iter().fold(0, |n, &bit| 2 * n + u8::from(bit)))
-        .collect()
+    bits.chunks(8).map(|byte| byte.iter().fold(0, |n, &bit| 2 * n + u8::from(bit))).collect()
 }
 
 fn bits(list: &[Told]) -> usize {
@@ -243,11 +204,7 @@ impl Cases {
     /// The lines of the outline that are marked P, and their values written.
     fn outline(&mut self) {
         let lines: [(u32, &[u8], &[u32]); 4] = [
-            (
-                4,
-                &[0x04, 0x00, 0x40, 0x18, 0x03, 0xFF],
-                &[1, 1, 1, 512, 1023],
-            ),
+            (4, &[0x04, 0x00, 0x40, 0x18, 0x03, 0xFF], &[1, 1, 1, 512, 1023]),
             (6, &[0x14, 0x10, 0x00], &[1, 65, 0]),
             (6, &[0x14, 0x10, 0x01], &[]),
             (1, &[0x00, 0x80, 0xAE, 0x00, 0x00, 0x00], &[1, 0, 5568, 0]),
@@ -262,22 +219,10 @@ impl Cases {
 
     fn records(&mut self, kind: &'static Kind) {
         for records in [1, 2, 7] {
-            self.both(
-                format!("{}, records: {records}", kind.name),
-                kind,
-                &kind.list(records),
-            );
+            self.both(format!("{}, records: {records}", kind.name), kind, &kind.list(records));
         }
-        if kind
-            .record
-            .last()
-            .is_some_and(|f| f.width == 8 && f.until_zero)
-        {
-            self.both(
-                format!("{}, name of every byte", kind.name),
-                kind,
-                &kind.listing(1..=255),
-            );
+        if kind.record.last().is_some_and(|f| f.width == 8 && f.until_zero) {
+            self.both(format!("{}, name of every byte", kind.name), kind, &kind.listing(1..=255));
         }
     }
 
@@ -286,20 +231,10 @@ impl Cases {
         let list = kind.list(2);
         let (value, numbers) = (packed(&list), numbers(&list));
         for end in 0..value.len() {
-            self.read(
-                format!("{}, cut off", kind.name),
-                kind.number,
-                &value[..end],
-                4,
-            );
+            self.read(format!("{}, cut off", kind.name), kind.number, &value[..end], 4);
         }
         for end in 0..numbers.len() {
-            self.write(
-                format!("{}, cut off", kind.name),
-                kind.number,
-                &numbers[..end],
-                4,
-            );
+            self.write(format!("{}, cut off", kind.name), kind.number, &numbers[..end], 4);
         }
         for more in [0, 1] {
             self.read(
@@ -324,18 +259,8 @@ impl Cases {
             for &reserved in f.reserved {
                 let mut wrong = kind.list(2);
                 wrong[place].0 = reserved;
-                self.read(
-                    format!("{}, reserved", kind.name),
-                    kind.number,
-                    &packed(&wrong),
-                    4,
-                );
-                self.write(
-                    format!("{}, reserved", kind.name),
-                    kind.number,
-                    &numbers(&wrong),
-                    4,
-                );
+                self.read(format!("{}, reserved", kind.name), kind.number, &packed(&wrong), 4);
+                self.write(format!("{}, reserved", kind.name), kind.number, &numbers(&wrong), 4);
             }
         }
         for place in (0..kind.head.len()).chain(list.len() - kind.record.len()..list.len()) {
@@ -355,12 +280,7 @@ impl Cases {
             for bit in 0..8 * value.len() - bits(&list) {
                 let mut wrong = value.clone();
                 wrong[value.len() - 1] |= 1 << bit;
-                self.read(
-                    format!("{}, leftover bit", kind.name),
-                    kind.number,
-                    &wrong,
-                    4,
-                );
+                self.read(format!("{}, leftover bit", kind.name), kind.number, &wrong, 4);
             }
         }
     }
@@ -372,58 +292,26 @@ impl Cases {
             self.read(format!("{}, room", kind.name), kind.number, &value, room);
         }
         for room in [0, value.len() - 1, value.len()] {
-            self.write(
-                format!("{}, room", kind.name),
-                kind.number,
-                &numbers(&list),
-                room,
-            );
+            self.write(format!("{}, room", kind.name), kind.number, &numbers(&list), room);
         }
     }
 
     /// What just has room in a value of 4,096 bytes, and what has not.
     fn long(&mut self, kind: &'static Kind) {
-        let most = (1..)
-            .take_while(|&n| bits(&kind.stretched(n)) <= 8 * 4096)
-            .count();
+        let most = (1..).take_while(|&n| bits(&kind.stretched(n)) <= 8 * 4096).count();
         let (longest, longer) = (kind.stretched(most), kind.stretched(most + 1));
         let (value, too_long) = (packed(&longest), packed(&longer));
-        self.read(
-            format!("{}, the longest", kind.name),
-            kind.number,
-            &value,
-            6000,
-        );
-        self.read(
-            format!("{}, longer", kind.name),
-            kind.number,
-            &too_long,
-            6000,
-        );
-        self.read(
-            format!("{}, cut off at 4096", kind.name),
-            kind.number,
-            &too_long[..4096],
-            6000,
-        );
-        self.write(
-            format!("{}, the longest", kind.name),
-            kind.number,
-            &numbers(&longest),
-            4100,
-        );
+        self.read(format!("{}, the longest", kind.name), kind.number, &value, 6000);
+        self.read(format!("{}, longer", kind.name), kind.number, &too_long, 6000);
+        self.read(format!("{}, cut off at 4096", kind.name), kind.number, &too_long[..4096], 6000);
+        self.write(format!("{}, the longest", kind.name), kind.number, &numbers(&longest), 4100);
         self.write(
             format!("{}, the longest", kind.name),
             kind.number,
             &numbers(&longest),
             value.len() - 1,
         );
-        self.write(
-            format!("{}, longer", kind.name),
-            kind.number,
-            &numbers(&longer),
-            5000,
-        );
+        self.write(format!("{}, longer", kind.name), kind.number, &numbers(&longer), 5000);
     }
 
     /// What is judged before what.
@@ -442,11 +330,9 @@ impl Cases {
     /// Lists of more numbers than a value has bits are judged to their end all the same.
     fn endless(&mut self) {
         let name = vec![65; 32_768];
-        for (case, tail) in [
-            ("no room", &[0][..]),
-            ("too wide at the end", &[256]),
-            ("cut off", &[]),
-        ] {
+        for (case, tail) in
+            [("no room", &[0][..]), ("too wide at the end", &[256]), ("cut off", &[])]
+        {
             self.write(
                 format!("esn, a long list, {case}"),
                 6,
@@ -454,22 +340,12 @@ impl Cases {
                 4100,
             );
         }
-        self.write(
-            "xyz, a long list, no room",
-            4,
-            &[vec![1], vec![1; 32_768]].concat(),
-            4100,
-        );
+        self.write("xyz, a long list, no room", 4, &[vec![1], vec![1; 32_768]].concat(), 4100);
     }
 
     fn gains(&mut self) {
         for number in [0, 1, 2, 50, 51, 52, 63, 64, 256, u32::MAX] {
-            self.0.push(Case {
-                name: "level".into(),
-                call: Call::Gain,
-                number,
-                room: 0,
-            });
+            self.0.push(Case { name: "level".into(), call: Call::Gain, number, room: 0 });
         }
     }
 }
@@ -493,17 +369,11 @@ fn all() -> Vec<Case> {
 /// length and how often it stands there.
 fn repeated(input: &[u8]) -> (usize, usize) {
     let runs = (1..=64.min(input.len())).map(|size| {
-        let times = input
-            .chunks_exact(size)
-            .take_while(|block| *block == &input[..size])
-            .count();
+        let times = input.chunks_exact(size).take_while(|block| *block == &input[..size]).count();
         (size, times.min(u16::MAX.into()))
     });
     runs.max_by_key(|&(size, times)| {
-        (
-            if times > 1 { size * times } else { 0 },
-            std::cmp::Reverse(size),
-        )
+        (if times > 1 { size * times } else { 0 }, std::cmp::Reverse(size))
     })
     .unwrap_or((0, 0))
 }
@@ -563,10 +433,7 @@ fn answer(result: Result<usize, Refusal>) -> String {
 fn run(shown: impl Iterator<Item = String>, bytes: &[u8]) -> String {
     format!(
         "{}, crc {:08x}",
-        shown
-            .take(SHOWN)
-            .map(|text| format!(" {text}"))
-            .collect::<String>(),
+        shown.take(SHOWN).map(|text| format!(" {text}")).collect::<String>(),
         crc(bytes)
     )
 }
@@ -602,32 +469,24 @@ fn line(case: &Case) -> String {
     format!("{}: {text}\n", case.name)
 }
 
-/// The file of cases, and what the program prints of them.
-pub fn made() -> (Vec<u8>, String) {
+fn made() -> Made {
     let cases = all();
-    let data: Vec<u8> = cases.iter().flat_map(encoded).collect();
+    let input: Vec<u8> = cases.iter().flat_map(encoded).collect();
     assert!(
-        data.len() <= MAX_CASES,
+        input.len() <= MAX_CASES,
         "{} bytes of cases are more than the program reads",
-        data.len()
+        input.len()
     );
-    (
-        data,
-        cases
-            .iter()
-            .map(line)
-            .chain([format!("{} cases\n", cases.len())])
-            .collect(),
-    )
+    let count = format!("{} cases\n", cases.len());
+    let output: String = cases.iter().map(line).chain([count]).collect();
+    Made { program: "pmd_vectors", files: [("stdin", input), ("stdout", output.into_bytes())] }
 }
 
-/// Where the program stands.
-pub fn folder() -> PathBuf {
-    Path::new(env!("CARGO_MANIFEST_DIR")).join("../crates/pmd_vectors")
+fn main() -> std::io::Result<()> {
+    made().write()
 }
 
-fn main() {
-    let (data, text) = made();
-    fs::write(folder().join("stdin"), data).expect("the cases can be written");
-    fs::write(folder().join("stdout"), text).expect("the text can be written");
+#[test]
+fn the_tree_has_these_cases() {
+    made().assert_in_tree();
 }

@@ -9,11 +9,13 @@
 //! sheet, its pack and its buffer have. Name, sheet and pack follow; every byte of the buffer holds
 //! EE before the scrub.
 
+mod shared;
+
 use reference::crc::crc;
 use reference::numbers::{write_length, write_tag, MAX_TAG};
 use reference::pack::{KEY, MAX_PACK};
 use reference::scrub;
-use std::path::PathBuf;
+use shared::Made;
 
 /// Buffers up to this size are printed whole.
 const SHORT: usize = 96;
@@ -397,23 +399,18 @@ fn hex(bytes: &[u8]) -> String {
     bytes.iter().map(|byte| format!(" {byte:02x}")).collect()
 }
 
-/// The two files of the tree and what they hold.
-fn files() -> [(PathBuf, Vec<u8>); 2] {
-    let folder = PathBuf::from(env!("CARGO_MANIFEST_DIR")).join("../crates/scrub_vectors");
+fn made() -> Made {
     let cases = all();
     let input = cases.iter().flat_map(bytes).collect();
     let output: String = cases.iter().map(expected).collect();
-    [(folder.join("stdin"), input), (folder.join("stdout"), output.into_bytes())]
+    Made { program: "scrub_vectors", files: [("stdin", input), ("stdout", output.into_bytes())] }
 }
 
 fn main() -> std::io::Result<()> {
-    files().into_iter().try_for_each(|(path, bytes)| std::fs::write(path, bytes))
+    made().write()
 }
 
 #[test]
 fn the_tree_has_these_cases() {
-    for (path, bytes) in files() {
-        let held = std::fs::read(&path).expect("the file is in the tree");
-        assert!(held == bytes, "{} is not what this example makes", path.display());
-    }
+    made().assert_in_tree();
 }

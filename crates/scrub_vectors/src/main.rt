@@ -80,7 +80,7 @@ fn run(name: &mut [u8], sheet: &mut [u8], pack: &mut [u8], out: &mut [u8]) -> bo
     if !filled(pack) {
         return false;
     }
-    text(name);
+    vectors::text(name);
     let answer = scrub::scrub(sheet, pack, out);
     told(answer, out);
     true

@@ -1,20 +1,20 @@
-//! The cases of `crates/list_vectors` and the listing that each must have, by this implementation
-//! alone. The test holds the two files there, `data/cases` and `stdout`, to what is made here; with
-//! BALLASTWREN_WRITE set it writes them anew:
+//! Makes the cases that `crates/list_vectors` runs, and by this implementation what it must print.
 //!
-//!     BALLASTWREN_WRITE=1 cargo test --release --offline --test list_cases
+//!     cargo run --release --offline --example list_vectors
+//!
+//! writes `data/cases` and `stdout` there; the tests at the end hold the files in the tree to them.
 //!
 //! In `data/cases` a case is its title line and its pack, each after its length in two bytes, most
 //! significant first. In `stdout` it is its title line and the listing.
 
+#[path = "../tests/common/mod.rs"]
 mod common;
-
-use std::path::Path;
-use std::{env, fs};
+mod shared;
 
 use common::{config, config_value, hex, k, pack, pack_with_crc, payload, sync, LABEL_A, LABEL_B};
 use reference::listing;
 use reference::pack::KEY;
+use shared::Made;
 
 type Case = (String, Vec<u8>);
 
@@ -160,29 +160,14 @@ fn labels_and_syncs() -> Vec<Case> {
     vec![
         case("labels, a Sync and a CRC", whole.clone()),
         case("the same without the CRC", pack(&items)),
-        case(
-            "one bit of the CRC's first byte changed",
-            flipped(whole.clone(), 4, 0x80),
-        ),
-        case(
-            "one bit of the CRC's last byte changed",
-            flipped(whole.clone(), 1, 1),
-        ),
-        case(
-            "one bit of the value before it changed",
-            flipped(whole, 7, 1),
-        ),
+        case("one bit of the CRC's first byte changed", flipped(whole.clone(), 4, 0x80)),
+        case("one bit of the CRC's last byte changed", flipped(whole.clone(), 1, 1)),
+        case("one bit of the value before it changed", flipped(whole, 7, 1)),
         case("CRC alone", pack_with_crc(&[])),
         case("unused mapping", pack(&unused)),
         case(
             "tag of four bytes mapped",
-            pack(
-                &[
-                    config(0, &[(268_435_455, LABEL_B)]),
-                    payload(268_435_455, b"a"),
-                ]
-                .concat(),
-            ),
+            pack(&[config(0, &[(268_435_455, LABEL_B)]), payload(268_435_455, b"a")].concat()),
         ),
     ]
 }
@@ -192,18 +177,13 @@ fn mapped() -> Vec<Case> {
     let two = |tag, label: &str| pack(&config(0, &[(4, LABEL_A), (tag, label)]));
     let then = |value: Vec<u8>, more: &str| pack(&payload(1, &[value, hex(more)].concat()));
     let first = || config_value(0, &[(4, LABEL_A)]);
-    let labelled: Vec<u8> = (64..96)
-        .flat_map(|tag| payload(tag, b"v").repeat(2))
-        .collect();
+    let labelled: Vec<u8> = (64..96).flat_map(|tag| payload(tag, b"v").repeat(2)).collect();
     let bad_after = [config(0, &[(1, LABEL_A)]), vec![0x80]].concat();
     vec![
         case("mapped tag 1", one(1, LABEL_A)),
         case("mapped tag 2", one(2, LABEL_A)),
         case("mapped tag 3", one(3, LABEL_A)),
-        case(
-            "label of Config",
-            two(5, "060E2B340401010D0404020100000000"),
-        ),
+        case("label of Config", two(5, "060E2B340401010D0404020100000000")),
         case("label of Sync", two(5, "060E2B340401010D0404020200000000")),
         case("label of CRC", two(5, "060E2B340401010D0404020300000000")),
         case("tag mapped twice", two(4, LABEL_B)),
@@ -212,19 +192,10 @@ fn mapped() -> Vec<Case> {
         case("second label cut off", then(first(), "05 06 0E")),
         case("second tag bad", then(first(), "FF FF FF FF")),
         case("MAP before a bad tag after the Config", pack(&bad_after)),
-        case(
-            "32 mappings, 64 payloads",
-            pack(&[payload(1, &mappings(32)), labelled].concat()),
-        ),
+        case("32 mappings, 64 payloads", pack(&[payload(1, &mappings(32)), labelled].concat())),
         case("33 mappings", pack(&payload(1, &mappings(33)))),
-        case(
-            "COUNT of a mapping before its bad tag",
-            then(mappings(32), "80"),
-        ),
-        case(
-            "COUNT of a mapping before its tag is cut off",
-            then(mappings(32), "81"),
-        ),
+        case("COUNT of a mapping before its bad tag", then(mappings(32), "80")),
+        case("COUNT of a mapping before its tag is cut off", then(mappings(32), "81")),
     ]
 }
 
@@ -243,10 +214,7 @@ fn counts() -> Vec<Case> {
         case("32 Syncs of one payload", pack(&inside(1).repeat(32))),
         case("33 Syncs of one payload", pack(&inside(1).repeat(33))),
         case("64 payloads and a Sync", full(&inside(1))),
-        case(
-            "63 payloads and a Sync",
-            pack(&[one.repeat(63), inside(1)].concat()),
-        ),
+        case("63 payloads and a Sync", pack(&[one.repeat(63), inside(1)].concat())),
         case("COUNT before the Sync's size", full(&[2, 0])),
         case("CUT before COUNT", full(&[5, 1])),
         case("PLACE before COUNT", full(&[1, 0])),
@@ -271,26 +239,24 @@ fn block(bytes: &[u8]) -> Vec<u8> {
     [&size.to_be_bytes(), bytes].concat()
 }
 
-#[test]
-fn files_are_as_made() {
+fn made() -> Made {
     let cases = cases();
-    let data: Vec<u8> = cases
+    let data = cases
         .iter()
         .flat_map(|(title, pack)| [block(title.as_bytes()), block(pack)].concat())
         .collect();
-    let text: String = cases
-        .iter()
-        .map(|(title, pack)| format!("{title}{}", listing(pack)))
-        .collect();
-    let folder = Path::new(env!("CARGO_MANIFEST_DIR")).join("../crates/list_vectors");
-    for (name, made) in [("data/cases", data.as_slice()), ("stdout", text.as_bytes())] {
-        let file = folder.join(name);
-        if env::var_os("BALLASTWREN_WRITE").is_some() {
-            fs::write(&file, made).expect("the file can be written");
-        }
-        let found = fs::read(&file).expect("the file can be read");
-        assert!(found == made, "{} is not what is made here", file.display());
-    }
+    let text: String =
+        cases.iter().map(|(title, pack)| format!("{title}{}", listing(pack))).collect();
+    Made { program: "list_vectors", files: [("data/cases", data), ("stdout", text.into_bytes())] }
+}
+
+fn main() -> std::io::Result<()> {
+    made().write()
+}
+
+#[test]
+fn the_tree_has_these_cases() {
+    made().assert_in_tree();
 }
 
 #[test]
