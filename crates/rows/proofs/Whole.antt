@@ -37,11 +37,16 @@ pub record Told (s : List ℕ) (f : Reading) (n : ℕ) : Type 0 where
   pub few : n ≤ itemCap
   pub there : n ≤ length (f .items)
   pub fit : RowsFit (take n (f .items))
-  pub size : length (numbers f n) ≡ 8 * (1 + n)
+  pub size : length (itemRows (f .labels) (take n (f .items))) ≡ 8 * n
   pub whole : rowsRead s ≡ fine (numbers f n)
 
+-- with the pack's row
+long : {s : List ℕ} {f : Reading} {n : ℕ} → Told s f n → length (numbers f n) ≡ 8 * (1 + n)
+unfolding packRow
+long t = omega (arith, t .size)
+
 shown-rows : (s : List ℕ) → Bytes s → (o : Outcome Read) → reading s ≡ o → (n : ℕ) → shown o .answer ≡ A.Done n → Told s (shown o) n
-unfolding shown andThen rowsOf packRow
+unfolding shown andThen rowsOf
 shown-rows s b (fine r) e n h =
     let a = reading-bounds s b r e in
     let parts = r .body .parts in
@@ -89,7 +94,7 @@ module _ (s before : List ℕ) (f : Reading) (e : f ≡ shown (reading s)) where
     pub rows-noroom : length before < 8 * (1 + n) → Delivered outcome before (A.Refused R.NoRoom 0) before
     rows-noroom l =
         let t = rows-told in
-        delivered-refused (ap (within (length before)) (t .whole) ∙ none-within (length before) (numbers f n) (omega (arith, t .size))) refl
+        delivered-refused (ap (within (length before)) (t .whole) ∙ none-within (length before) (numbers f n) (omega (arith, long t))) refl
 
     pub rows-done : {us after : List ℕ} {m k : ℕ} → 8 * (1 + n) ≤ length before → Wrote before 0 (packRow (f .offset) (f .crc) n) m us
         → Wrote us m (itemRows (f .labels) (take n (f .items))) k after → Delivered outcome before (A.Done k) after
@@ -97,6 +102,6 @@ module _ (s before : List ℕ) (f : Reading) (e : f ≡ shown (reading s)) where
         let t = rows-told in
         let first = packRow (f .offset) (f .crc) n in
         let more = itemRows (f .labels) (take n (f .items)) in
-        let w = wrote-then first more (omega (arith, t .size, length-append first more)) p q in
-        delivered-fine (ap (within (length before)) (t .whole) ∙ fine-within (length before) (numbers f n) (omega (arith, t .size)))
+        let w = wrote-then first more (omega (arith, long t, length-append first more)) p q in
+        delivered-fine (ap (within (length before)) (t .whole) ∙ fine-within (length before) (numbers f n) (omega (arith, long t)))
         (ap A.Done (w .next ∙ zero-add (length (numbers f n)))) (w .buffer)

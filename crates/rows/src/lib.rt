@@ -1,16 +1,15 @@
 // The reading of a pack as rows of eight numbers in a lent run.
 ghost use mathlib.Core.Path.{_≡_};
 ghost use mathlib.Core.Bool.{cond};
-ghost use Prim.Native.Nat.{_+_, _*_, _≤_};
-ghost use lib.ListN.{length, take};
+ghost use Prim.Native.Nat.{_+_, _≤_};
+ghost use lib.ListN.{length};
 ghost use Rattle.lists.specs.Over.{Wrote};
 ghost use Rattle.refusals.specs.Lent.{within, Delivered};
-ghost use Rattle.pack.specs.Rows.{NameFits, ItemFits, RowsFit};
-ghost use Rattle.rows.specs.Rows.{extended, packRow, payloadRow, itemRow, itemRows, rowsRead, numbersOf};
+ghost use Rattle.pack.specs.Rows.{NameFits, ItemFits};
+ghost use Rattle.rows.specs.Rows.{extended, packRow, payloadRow, itemRow, rowsRead, numbersOf};
 use pack::Item;
 use pack::Name;
 use pack::Payload;
-use pack::Reading;
 use refusals::Answer;
 use refusals::Refusal;
 
@@ -128,24 +127,6 @@ fn put_row(out: &mut [u32], at: usize, row: Row) -> usize
     at + 8
 }
 
-// Stores the first `count` rows of a reading.
-fn put_rows(out: &mut [u32], at: usize, found: Reading, count: usize) -> usize
-    requires { ⌜ (count ≤ 64) × (count ≤ length (found .items)) × RowsFit (take count (found .items)) × (at + 8 * count ≤ length (now out)) ⌝ }
-    ensures { λ r. ⌜ Wrote (now (out .entry)) at (itemRows (found .labels) (take count (found .items))) r (now (out .exit)) ⌝ }
-{
-    let places = found.labels;
-    let mut next = at;
-    let mut i: usize = 0;
-    while i < count {
-        let slot = found.items[i];
-        let item = slot.item;
-        let row = item_row(&places, item);
-        next = put_row(out, next, row);
-        i += 1;
-    }
-    next
-}
-
 // Reads a pack into `out`: the pack's row, then one for each item and inner payload in order. Answers how many numbers these are, or the refusal
 // and its place: those of the pack, then NOROOM. Numbers after them do not change; a refusal changes none.
 pub fn rows(pack: &[u8], out: &mut [u32]) -> Answer
@@ -162,8 +143,16 @@ pub fn rows(pack: &[u8], out: &mut [u32]) -> Answer
             place: 0,
         };
     }
+    let places = found.labels;
     let first = pack_row(found.offset, found.crc, count);
-    let next = put_row(&mut *out, 0, first);
-    let end = put_rows(&mut *out, next, found, count);
-    Answer::Done(end)
+    let mut next = put_row(&mut *out, 0, first);
+    let mut i: usize = 0;
+    while i < count {
+        let slot = found.items[i];
+        let item = slot.item;
+        let row = item_row(&places, item);
+        next = put_row(&mut *out, next, row);
+        i += 1;
+    }
+    Answer::Done(next)
 }
