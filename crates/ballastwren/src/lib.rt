@@ -52,7 +52,7 @@ fn told_answer(a: Answer) -> Told
     }
 }
 
-// Whether a pack is good: the count of its items and inner payloads, or its refusal.
+// Checks a pack. Answers how many items and inner payloads it has, or the refusal and its place.
 #[no_mangle]
 pub extern "C" fn bw_check(pack: &[u8]) -> Told
     ensures { λ r. ⌜ r ≡ toldOf (checked (now (pack .entry))) ⌝ }
@@ -71,8 +71,8 @@ pub extern "C" fn bw_read(pack: &[u8], rows: &mut [u32]) -> Told
     told_answer(a)
 }
 
-// Scrubs a pack by the bytes of a keep sheet into `out`: the new pack's length, or the refusal, in this order: the sheet's, the pack's, NOROOM.
-// What follows the new pack in `out` becomes 0; a refusal changes nothing in it.
+// Scrubs a pack by the bytes of a keep sheet into `out`. Answers the length of the new pack, or the refusal: SHEET, those of bw_check, then NOROOM.
+// What follows the new pack in `out` becomes 0; a refusal changes nothing.
 #[no_mangle]
 pub extern "C" fn bw_scrub(sheet: &[u8], pack: &[u8], out: &mut [u8]) -> Told
     ensures { λ r. ⌜ Left (scrubbed (now (sheet .entry)) (now (pack .entry)) (length (now (out .entry)))) (now (out .entry)) r (now (out .exit)) ⌝ }
@@ -81,7 +81,8 @@ pub extern "C" fn bw_scrub(sheet: &[u8], pack: &[u8], out: &mut [u8]) -> Told
     told_answer(a)
 }
 
-// Reads a PMD value of this kind into `numbers`.
+// Reads a PMD value of this kind into `numbers`, all its fields in order. Answers how many numbers were written, or the refusal: KIND, BIG, those of
+// the fields with their bit as place, PAD, then NOROOM. Numbers after those written do not change; a refusal changes none.
 #[no_mangle]
 pub extern "C" fn bw_pmd_read(kind: u32, value: &[u8], numbers: &mut [u32]) -> Told
     ensures { λ r. ⌜ Given (within (length (now (numbers .entry))) (reading kind (now (value .entry)))) (now (numbers .entry)) r (now (numbers .exit)) ⌝ }
@@ -90,7 +91,8 @@ pub extern "C" fn bw_pmd_read(kind: u32, value: &[u8], numbers: &mut [u32]) -> T
     told_answer(a)
 }
 
-// Writes `numbers` as a PMD value of this kind into `out`.
+// Writes `numbers` as a PMD value of this kind into `out`. Answers how many bytes were written, or the refusal: KIND, those of the list with the
+// number's index as place, then NOROOM. Bytes after those written do not change; a refusal changes none.
 #[no_mangle]
 pub extern "C" fn bw_pmd_write(kind: u32, numbers: &[u32], out: &mut [u8]) -> Told
     ensures { λ r. ⌜ Given (within (length (now (out .entry))) (writing kind (now (numbers .entry)))) (now (out .entry)) r (now (out .exit)) ⌝ }
@@ -99,7 +101,7 @@ pub extern "C" fn bw_pmd_write(kind: u32, numbers: &[u32], out: &mut [u8]) -> To
     told_answer(a)
 }
 
-// What an object's gain means: muted, or half decibels. A gain above 63 is refused.
+// What an object's gain means: muted at 0, else half decibels from -50 to 12. A gain above 63 is FIELD.
 #[no_mangle]
 pub extern "C" fn bw_gain(gain: u32) -> ToldGain
     ensures { λ r. ⌜ r ≡ toldGainOf (levelOf gain) ⌝ }

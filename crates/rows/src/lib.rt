@@ -37,13 +37,14 @@ fn extended(n: u16) -> u32
     }
 }
 
+// 1 where a CRC stood.
 fn mark(crc: bool) -> u32
     ensures { λ r. ⌜ r ≡ cond crc 1 0 ⌝ }
 {
     if crc { 1 } else { 0 }
 }
 
-// The row of the pack: its offset, 1 where a CRC stood, and how many rows follow.
+// The row of the pack, which holds other numbers than those of its items: its offset, whether a CRC stood there, and how many rows follow.
 fn pack_row(offset: u16, crc: bool, count: usize) -> Row
     requires { ⌜ count ≤ 64 ⌝ }
     ensures { λ r. ⌜ numbersOf r ≡ packRow offset crc count ⌝ }
