@@ -11,9 +11,11 @@ use Rattle.lists.specs.Digits.{Bytes, digits}
 use Rattle.lists.specs.Over.{Wrote}
 use Rattle.lists.specs.Same.{among}
 use Rattle.refusals.specs.Outcomes.{fine, answered}
+use Rattle.refusals.specs.Refusals.{numberOf}
 use Rattle.refusals.specs.declared.Refusal.{Refusal}
 use Rattle.refusals.specs.declared.Answer.{Answer}
 use Rattle.refusals.specs.declared.Answer.the-variants as A
+use Rattle.refusals.proofs.Numbers as refusals
 use Rattle.numbers.specs.declared.TagRead.the-variants as T
 use Rattle.numbers.specs.declared.LengthRead.the-variants as L
 use Rattle.numbers.specs.Tags.{tagAt, tagBytes}
@@ -42,7 +44,7 @@ use Rattle.kept.specs.Sheet.{Sheet, sheetOf}
 use Rattle.kept.specs.Kept.{keptItems, kept}
 use Rattle.kept.specs.Placed.{Placed, grouped, placed, onSheet, Holds, namedBy}
 use Rattle.kept.specs.Written.{free}
-use Rattle.kept.specs.Scrubbed.{leaves, ReadsAs}
+use Rattle.kept.specs.Scrubbed.{scrubbed, leaves, ReadsAs}
 use Rattle.kept.proofs.Demand3 as demand
 use Rattle.scrub.specs.Scrubs.{Scrubs}
 use Rattle.scrub.proofs.One as scrubs
@@ -55,6 +57,11 @@ use Rattle.pmd.proofs.RoundTrips as trips
 use Rattle.pmd.proofs.One as gains
 use Rattle.pmd_reading.proofs.One as pmd-reads
 use Rattle.pmd_writing.proofs.One as pmd-writes
+use Rattle.rows.specs.Rows.{rowsRead}
+use Rattle.ballastwren.specs.Told.{toldOf, toldGainOf, Given, Left}
+use Rattle.ballastwren.specs.declared.Told.{Told}
+use Rattle.ballastwren.specs.declared.ToldGain.{ToldGain}
+use Rattle.ballastwren.proofs.One as exports
 
 -- NUMBERS
 
@@ -204,3 +211,34 @@ pmd-write-one = pmd-writes.pmd-write-one
 
 pub gain-one : (g : ℕ) (a b : Level) → a ≡ levelOf g → b ≡ levelOf g → a ≡ b
 gain-one = gains.gain-one
+
+-- WHAT C CALLS
+-- Two outcomes of an export on the same input coincide: the numbers that C is told, and every lent run and buffer to its last element.
+
+pub bw-check-one : (pack : List ℕ) (a b : Told) → a ≡ toldOf (checked pack) → b ≡ toldOf (checked pack) → a ≡ b
+bw-check-one = exports.bw-check-one
+
+pub bw-read-one : (pack before us vs : List ℕ) (a b : Told)
+    → Given (within (length before) (rowsRead pack)) before a us → Given (within (length before) (rowsRead pack)) before b vs → (a ≡ b) × (us ≡ vs)
+bw-read-one = exports.bw-read-one
+
+pub bw-scrub-one : (sheet pack before us vs : List ℕ) (a b : Told)
+    → Left (scrubbed sheet pack (length before)) before a us → Left (scrubbed sheet pack (length before)) before b vs → (a ≡ b) × (us ≡ vs)
+bw-scrub-one = exports.bw-scrub-one
+
+pub bw-pmd-read-one : (kind : ℕ) (value before us vs : List ℕ) (a b : Told)
+    → Given (within (length before) (pmd.reading kind value)) before a us → Given (within (length before) (pmd.reading kind value)) before b vs
+    → (a ≡ b) × (us ≡ vs)
+bw-pmd-read-one = exports.bw-pmd-read-one
+
+pub bw-pmd-write-one : (kind : ℕ) (numbers before us vs : List ℕ) (a b : Told)
+    → Given (within (length before) (writing kind numbers)) before a us → Given (within (length before) (writing kind numbers)) before b vs
+    → (a ≡ b) × (us ≡ vs)
+bw-pmd-write-one = exports.bw-pmd-write-one
+
+pub bw-gain-one : (gain : ℕ) (a b : ToldGain) → a ≡ toldGainOf (levelOf gain) → b ≡ toldGainOf (levelOf gain) → a ≡ b
+bw-gain-one = exports.bw-gain-one
+
+-- No two refusals have the same number.
+pub numbers-apart : (a b : Refusal) → numberOf a ≡ numberOf b → a ≡ b
+numbers-apart = refusals.numbers-apart
