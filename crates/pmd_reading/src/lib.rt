@@ -51,7 +51,7 @@ fn count(row: Row, s: &[u8]) -> Answer
     }
 }
 
-// Stores the fields of a value that was counted and has room. Each number was judged as a value of its own sort when it was counted.
+// Stores the fields of a value that was counted and has room.
 fn fill(row: Row, s: &[u8], numbers: &mut [u32])
     requires { ⌜ (length (now s) ≤ 4096) × (Walkable row × Roomy (readRow row (now s)) (length (now numbers))) ⌝ }
     ensures { λ _. ⌜ now (numbers .exit) ≡ lent (now (numbers .entry)) (readRow row (now (s .entry))) ⌝ }
@@ -66,7 +66,7 @@ fn fill(row: Row, s: &[u8], numbers: &mut [u32])
             let w = piece.1 as usize;
             let mut more = true;
             while more {
-                let v = bits::fetch(s, at, w);
+                let v = pmd::number_of(pmd::value_of(f, bits::fetch(s, at, w)));
                 numbers[n] = v;
                 at += w;
                 n += 1;

@@ -1,6 +1,6 @@
 -- `pmd_reading::count` meets its contract. Its loops keep that the numbers found so far, before what is read from here on, are the whole reading.
 -- Assumes nothing.
-use Prim.Native.Nat.{ℕ, _+_, _-_, _*_, _^_, _<_, _≤_}
+use Prim.Native.Nat.{ℕ, _+_, _-_, _*_, _≤_}
 use mathlib.Core.Path.{_≡_, refl, sym, ap, subst, _∙_}
 use mathlib.Core.List.{List, [], _∷_}
 use native.Mathlib.Omega.{arith}
@@ -8,7 +8,6 @@ use borrow.Author.Needs.{needs}
 use borrow.Author.Tests.{not-true, not-false}
 use denote.Ref.{now}
 use lib.ListN.{length, getD}
-use Rattle.bits.proofs.Fields.{field-lt}
 use Rattle.pmd.specs.declared.Piece.{Piece}
 use Rattle.pmd.specs.Table.{widthOf, valueOf, mayHold}
 use Rattle.pmd.proofs.Fields.{width-some}
@@ -104,7 +103,7 @@ fetch-requires : tie.Need-fetch-requires Inv-loop3 μ-loop3 Inv-loop2 μ-loop2 I
 fetch-requires c κs = let d = due (c .before) .kept in let n = narrow (c .before .before .before) in omega (arith, d .inside, n, c .if1 .left)
 
 value-of-requires : tie.Need-value-of-requires Inv-loop3 μ-loop3 Inv-loop2 μ-loop2 Inv-loop μ-loop
-value-of-requires c κs = subst (λ (m : ℕ). c .fetch .result < 2 ^ m) (wide (c .before .before .before .before)) (subst (λ (x : ℕ). x < 2 ^ w (c .before .before .before .before)) (sym (c .fetch .ensures)) (field-lt _ _ _))
+value-of-requires c κs = search needs
 
 holds-requires : tie.Need-holds-requires Inv-loop3 μ-loop3 Inv-loop2 μ-loop2 Inv-loop μ-loop
 holds-requires c κs = search needs

@@ -2,7 +2,7 @@
 -- that was counted has each field, and each is good.
 -- Assumes nothing.
 use Prim.Native.Nat.{ℕ, _+_, _-_, _*_, _<_, _≤_}
-use mathlib.Core.Path.{_≡_, refl, sym, subst}
+use mathlib.Core.Path.{_≡_, refl, sym, ap, subst, _∙_}
 use mathlib.Core.Bool.{Bool}
 use mathlib.Core.List.{List, [], _∷_, _++_}
 use native.Mathlib.Omega.{arith}
@@ -10,9 +10,10 @@ use borrow.Author.Needs.{needs}
 use denote.Ref.{now}
 use lib.ListN.{length, getD}
 use Rattle.pmd.specs.declared.Piece.{Piece}
-use Rattle.pmd.specs.Table.{widthOf}
+use Rattle.bits.specs.Bits.{fieldAt}
+use Rattle.pmd.specs.Table.{widthOf, asNumber}
 use Rattle.pmd.specs.Records.{goesOn, onward}
-use Rattle.pmd.proofs.Fields.{width-some}
+use Rattle.pmd.proofs.Fields.{width-some, number-value}
 use Rattle.pmd_rows.specs.declared.Row.{Row}
 use Rattle.pmd_rows.specs.Rows.{leftOf}
 use Rattle.pmd_rows.proofs.Walk.{Records, Pieces, Fields, blank, wide-at, pieces-begin, fields-begin, fields-open, fields-on, pieces-on, pieces-over}
@@ -24,11 +25,11 @@ use Rattle.pmd_reading.proofs.fill.Statement.{statement}
 use Rattle.pmd_reading.proofs.fill.Tie as tie
 
 abbrev Inv-loop3 : tie.InvT-loop3
-Inv-loop3 s numbers₀ row at₀ n₀ i piece w more₀ numbers at n more =
+Inv-loop3 s numbers₀ row at₀ n₀ i piece f w more₀ numbers at n more =
     Fields (Found (Stored numbers n) row s at n) row i piece at₀ at more × Frame numbers₀ n₀ numbers n
 
 abbrev μ-loop3 : tie.MeasureT-loop3
-μ-loop3 s numbers₀ row at₀ n₀ i piece w more₀ numbers at n more = 8 * length s - at
+μ-loop3 s numbers₀ row at₀ n₀ i piece f w more₀ numbers at n more = 8 * length s - at
 
 abbrev Inv-loop2 : tie.InvT-loop2
 Inv-loop2 s numbers₀ row at₀ n₀ i₀ numbers at n i = Pieces (Found (Stored numbers n) row s at n) row at₀ i₀ at i × Frame numbers₀ n₀ numbers n
@@ -100,17 +101,29 @@ loop3-holds c = (fields-begin (c .before .before .before .before .before .before
 fetch-requires : tie.Need-fetch-requires Inv-loop3 μ-loop3 Inv-loop2 μ-loop2 Inv-loop μ-loop
 fetch-requires c κs = omega (arith, due c .kept .inside, there c, narrow (c .before .before))
 
+value-of-requires : tie.Need-value-of-requires Inv-loop3 μ-loop3 Inv-loop2 μ-loop2 Inv-loop μ-loop
+value-of-requires c κs = search needs
+
+number-of-requires : tie.Need-number-of-requires Inv-loop3 μ-loop3 Inv-loop2 μ-loop2 Inv-loop μ-loop
+number-of-requires c κs = search needs
+
 -- the number that is stored is the field's, which is good, and it has room
-module _ (c : tie.After-fetch Inv-loop3 μ-loop3 Inv-loop2 μ-loop2 Inv-loop μ-loop) where
+module _ (c : tie.After-number-of Inv-loop3 μ-loop3 Inv-loop2 μ-loop2 Inv-loop μ-loop) where
   abbrev turn : tie.In-loop3 Inv-loop3 μ-loop3 Inv-loop2 μ-loop2 Inv-loop μ-loop
-  turn = c .before
+  turn = c .before .before .before
 
   abbrev t : tie.After-struct-known Inv-loop3 μ-loop3 Inv-loop2 μ-loop2 Inv-loop μ-loop
-  t = c .before .before .before
+  t = c .before .before .before .before .before
 
-  next : {more : Bool} → more ≡ goesOn (piece t .2) (c .fetch .result)
-      → Kept (row t) (value t) (due turn .xs ++ (c .fetch .result ∷ [])) (turn .before .loop3 .at + w t) (turn .before .loop3 .n + 1) (onward (piece t) (left t) more)
-  next e = kept-on (due turn .kept) (w t) (wide t) (there turn) _ (c .fetch .ensures) (roomy-good (roomy t) (due turn .kept) (w t) (wide t) _ (c .fetch .ensures)) e
+  abbrev v : ℕ
+  v = c .number-of .result
+
+  number : v ≡ fieldAt (value t) (turn .before .loop3 .at) (w t)
+  number = c .number-of .ensures ∙ ap asNumber (c .before .value-of .ensures) ∙ number-value (piece t .0) _ ∙ c .before .before .fetch .ensures
+
+  next : {more : Bool} → more ≡ goesOn (piece t .2) v
+      → Kept (row t) (value t) (due turn .xs ++ (v ∷ [])) (turn .before .loop3 .at + w t) (turn .before .loop3 .n + 1) (onward (piece t) (left t) more)
+  next e = kept-on (due turn .kept) (w t) (wide t) (there turn) v number (roomy-good (roomy t) (due turn .kept) (w t) (wide t) v number) e
 
   room : turn .before .loop3 .n < length (turn .before .loop3 .numbers)
   room = omega (arith, roomy-for (roomy t) (next refl), turn .before .loop3 .inv .1 .long, t .before .before .before .loop2 .inv .1 .long, t .before .before .before .before .loop .inv .1 .long)
@@ -137,8 +150,8 @@ loop3-again : tie.Need-loop3-again Inv-loop3 μ-loop3 Inv-loop2 μ-loop2 Inv-loo
 loop3-again c =
     let f = turn (c .before) .before .loop3 in (
       fields-on (f .inv .0) (omega (arith, narrow (t (c .before))))
-          (record { xs = _; also = stored-on (f .numbers) (due (turn (c .before)) .xs) (f .n) (c .before .fetch .result) (room (c .before)) (due (turn (c .before)) .also); kept = next (c .before) (c .goes-on .ensures) }),
-      frame-then (f .inv .1) (frame-set (f .numbers) (f .n) (c .before .fetch .result)),
+          (record { xs = _; also = stored-on (f .numbers) (due (turn (c .before)) .xs) (f .n) (v (c .before)) (room (c .before)) (due (turn (c .before)) .also); kept = next (c .before) (c .goes-on .ensures) }),
+      frame-then (f .inv .1) (frame-set (f .numbers) (f .n) (v (c .before))),
     )
 
 add-i : tie.Need-add-i Inv-loop3 μ-loop3 Inv-loop2 μ-loop2 Inv-loop μ-loop
@@ -196,6 +209,8 @@ fill-spec =
     cast-w
     loop3-holds
     fetch-requires
+    value-of-requires
+    number-of-requires
     mul-numbers
     slice-write-numbers
     add-at

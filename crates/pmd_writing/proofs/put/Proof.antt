@@ -118,7 +118,7 @@ shared-slice-read-value-of : tie.Need-shared-slice-read-value-of Inv-loop3 μ-lo
 shared-slice-read-value-of c = there (c .before)
 
 value-of-requires : tie.Need-value-of-requires Inv-loop3 μ-loop3 Inv-loop2 μ-loop2 Inv-loop μ-loop
-value-of-requires c κs = fits-lt (piece (c .before .before .before)) (v (c .before)) (good (c .before))
+value-of-requires c κs = search needs
 
 number-of-requires : tie.Need-number-of-requires Inv-loop3 μ-loop3 Inv-loop2 μ-loop2 Inv-loop μ-loop
 number-of-requires c κs = search needs
