@@ -1,6 +1,7 @@
 // Runs published numbers through the number layer and prints what it finds; the gate holds that to the file `stdout`.
 ghost use Prim.Native.Nat.{_≤_, _+_, _<_, _*_, _^_};
 ghost use lib.ListN.{length};
+use libc::STDOUT_FILENO;
 use numbers::LengthRead;
 use numbers::TagRead;
 
@@ -341,10 +342,40 @@ const SPLICE_PROGRAM: [u8; 75] = [
     0x43,
 ];
 
+fn text(s: &[u8]) {
+    io::write_all(STDOUT_FILENO, s);
+}
+
+fn decimal(n: u64) {
+    io::print_decimal(STDOUT_FILENO, n);
+}
+
+fn wide(n: u32) -> u64 {
+    n as u64
+}
+
+fn far(n: usize) -> u64 {
+    n as u64
+}
+
+fn byte(b: u8) {
+    io::print_hex(STDOUT_FILENO, b as u64, 2);
+}
+
+// The bytes of `s` in hexadecimal, a space before each.
+fn bytes(s: &[u8]) {
+    let mut i: usize = 0;
+    while i < s.len() {
+        text(b" ");
+        byte(s[i]);
+        i += 1;
+    }
+}
+
 // The first n bytes of `s`.
 fn first(s: &[u8], n: usize) {
     if n <= s.len() {
-        vectors::bytes(&s[0..n]);
+        bytes(&s[0..n]);
     }
 }
 
@@ -354,10 +385,11 @@ fn tag(t: u32)
 {
     let mut out = [0xEEu8; 8];
     let end = put_tag(&mut out, t);
-    vectors::number(b"tag ", t);
-    vectors::text(b" is");
+    text(b"tag ");
+    decimal(wide(t));
+    text(b" is");
     first(&out, end);
-    vectors::text(b",");
+    text(b",");
     tag_at(&out);
 }
 
@@ -374,19 +406,21 @@ fn put_tag(out: &mut [u8], t: u32) -> usize
 fn tag_at(s: &[u8]) {
     match numbers::read_tag(s, 0) {
         TagRead::Tag { tag, next } => {
-            vectors::number(b" read ", tag);
-            vectors::count(b" in ", next);
+            text(b" read ");
+            decimal(wide(tag));
+            text(b" in ");
+            decimal(far(next));
         }
-        TagRead::Bad => vectors::text(b" bad"),
-        TagRead::Cut => vectors::text(b" cut"),
+        TagRead::Bad => text(b" bad"),
+        TagRead::Cut => text(b" cut"),
     }
-    vectors::text(b"\n");
+    text(b"\n");
 }
 
 fn tag_bytes(s: &[u8]) {
-    vectors::text(b"tag at");
-    vectors::bytes(s);
-    vectors::text(b":");
+    text(b"tag at");
+    bytes(s);
+    text(b":");
     tag_at(s);
 }
 
@@ -394,10 +428,11 @@ fn tag_bytes(s: &[u8]) {
 fn len(n: u32) {
     let mut out = [0xEEu8; 8];
     let end = put_length(&mut out, n);
-    vectors::number(b"length ", n);
-    vectors::text(b" is");
+    text(b"length ");
+    decimal(wide(n));
+    text(b" is");
     first(&out, end);
-    vectors::text(b",");
+    text(b",");
     len_at(&out);
 }
 
@@ -411,41 +446,45 @@ fn put_length(out: &mut [u8], n: u32) -> usize {
 fn len_at(s: &[u8]) {
     match numbers::read_length(s, 0) {
         LengthRead::Length { len, next } => {
-            vectors::text(b" read ");
-            vectors::decimal(len);
-            vectors::count(b" in ", next);
+            text(b" read ");
+            decimal(len);
+            text(b" in ");
+            decimal(far(next));
         }
-        LengthRead::Forbidden => vectors::text(b" forbidden"),
-        LengthRead::Cut => vectors::text(b" cut"),
+        LengthRead::Forbidden => text(b" forbidden"),
+        LengthRead::Cut => text(b" cut"),
     }
-    vectors::text(b"\n");
+    text(b"\n");
 }
 
 fn len_bytes(s: &[u8]) {
-    vectors::text(b"length at");
-    vectors::bytes(s);
-    vectors::text(b":");
+    text(b"length at");
+    bytes(s);
+    text(b":");
     len_at(s);
 }
 
 fn crc_of(name: &[u8], s: &[u8]) {
-    vectors::text(b"crc of ");
-    vectors::text(name);
-    vectors::text(b": ");
-    vectors::crc(s);
-    vectors::text(b"\n");
+    text(b"crc of ");
+    text(name);
+    text(b": ");
+    io::print_hex(STDOUT_FILENO, wide(crc::crc(s)), 8);
+    text(b"\n");
 }
 
 // The field of `w` bits from bit `at` on.
 fn field(s: &[u8], at: usize, w: usize)
     requires { ⌜ (w ≤ 15) × ((at + w ≤ 8 * length (now s)) × (length (now s) ≤ 65536)) ⌝ }
 {
-    vectors::text(b"field");
-    vectors::bytes(s);
-    vectors::count(b", ", w);
-    vectors::count(b" bits from ", at);
-    vectors::number(b": ", bits::fetch(s, at, w));
-    vectors::text(b"\n");
+    text(b"field");
+    bytes(s);
+    text(b", ");
+    decimal(far(w));
+    text(b" bits from ");
+    decimal(far(at));
+    text(b": ");
+    decimal(wide(bits::fetch(s, at, w)));
+    text(b"\n");
 }
 
 // A section's CRC without its last four bytes, which hold it, and with them.
@@ -454,24 +493,24 @@ fn section(name: &[u8], s: &[u8])
 {
     let end = s.len() - 4;
     crc_of(name, &s[0..end]);
-    vectors::text(b"  and with its last four bytes");
-    vectors::bytes(&s[end..]);
-    vectors::text(b": ");
-    vectors::crc(s);
-    vectors::text(b"\n");
+    text(b"  and with its last four bytes");
+    bytes(&s[end..]);
+    text(b": ");
+    io::print_hex(STDOUT_FILENO, wide(crc::crc(s)), 8);
+    text(b"\n");
 }
 
 // Whether a 16-bit number read as two's complement is `v`, which is written `name`.
 fn sign(n: u16, v: i32, name: &[u8]) {
-    vectors::text(b"signed ");
-    vectors::decimal(n as u64);
+    text(b"signed ");
+    decimal(n as u64);
     if numbers::signed16(n) == v {
-        vectors::text(b" is ");
+        text(b" is ");
     } else {
-        vectors::text(b" is not ");
+        text(b" is not ");
     }
-    vectors::text(name);
-    vectors::text(b"\n");
+    text(name);
+    text(b"\n");
 }
 
 // 01's examples, and the forms that are refused.

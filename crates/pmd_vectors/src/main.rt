@@ -3,19 +3,120 @@
 // says how a case is laid out; the answers are the reference implementation's.
 ghost use Prim.Native.Nat.{_≤_};
 use libc::STDIN_FILENO;
+use libc::STDOUT_FILENO;
 use pmd::Level;
+use refusals::Answer;
+use refusals::Refusal;
+
+// How much of a lent run is printed.
+const SHOWN: usize = 12;
+
+// Prints a text as it is.
+fn text(s: &[u8]) {
+    io::write_all(STDOUT_FILENO, s);
+}
+
+// A number in decimal.
+fn decimal(n: u64) {
+    io::print_decimal(STDOUT_FILENO, n);
+}
+
+fn wide(n: u32) -> u64 {
+    n as u64
+}
+
+// A number with a text before it.
+fn number(before: &[u8], n: u32) {
+    text(before);
+    decimal(wide(n));
+}
+
+// A count or a place with a text before it.
+fn count(before: &[u8], n: usize) {
+    text(before);
+    decimal(n as u64);
+}
+
+fn byte(b: u8) {
+    io::print_hex(STDOUT_FILENO, b as u64, 2);
+}
+
+// The bytes of a run in hexadecimal, a space before each.
+fn bytes(s: &[u8]) {
+    let mut i: usize = 0;
+    while i < s.len() {
+        text(b" ");
+        byte(s[i]);
+        i += 1;
+    }
+}
+
+// A refusal: its number in document 01 and its place.
+fn refused(why: Refusal, place: usize) {
+    number(b"refused ", refusals::number(why));
+    count(b" at ", place);
+}
+
+// An answer: a count or a refusal.
+fn told(answer: Answer) {
+    match answer {
+        Answer::Done(n) => count(b"done ", n),
+        Answer::Refused { why, place } => refused(why, place),
+    }
+    text(b";");
+}
+
+// The CRC of a run, at the end of a line.
+fn crc_of(s: &[u8]) {
+    text(b", crc ");
+    io::print_hex(STDOUT_FILENO, wide(crc::crc(s)), 8);
+    text(b"\n");
+}
+
+// How much of a run of n is printed.
+fn shown(n: usize) -> usize
+    ensures { λ r. ⌜ r ≤ n ⌝ }
+{
+    if n < SHOWN { n } else { SHOWN }
+}
+
+// The first bytes of a run.
+fn shown_bytes(s: &[u8]) {
+    let end = shown(s.len());
+    bytes(&s[0..end]);
+}
+
+// The first numbers of a run.
+fn shown_numbers(s: &[u32]) {
+    let end = shown(s.len());
+    let mut i: usize = 0;
+    while i < end {
+        number(b" ", s[i]);
+        i += 1;
+    }
+}
+
+// A number and its sign.
+fn signed(n: i32) {
+    if n < 0 {
+        text(b"-");
+        decimal((0 - n as i64) as u64);
+    } else {
+        decimal(n as u64);
+    }
+}
 
 fn cut() {
-    vectors::text(b"the cases are cut off\n");
+    text(b"the cases are cut off\n");
 }
 
 // What is asked, before the answer.
 fn asked(kind: u32, n: usize, given: &[u8], room: usize) {
-    vectors::number(b"kind ", kind);
-    vectors::count(b", ", n);
-    vectors::text(given);
-    vectors::count(b", room ", room);
-    vectors::text(b": ");
+    number(b"kind ", kind);
+    count(b", ", n);
+    text(given);
+    count(b", room ", room);
+    text(b": ");
 }
 
 // Reads a value into a run of so many numbers.
@@ -25,7 +126,7 @@ fn read(kind: u32, value: &[u8], room: usize) {
         cut();
         return;
     }
-    vectors::text(b"read ");
+    text(b"read ");
     asked(kind, value.len(), b" bytes", room);
     read_run(kind, value, &mut numbers[0..room]);
 }
@@ -33,10 +134,10 @@ fn read(kind: u32, value: &[u8], room: usize) {
 fn read_run(kind: u32, value: &[u8], run: &mut [u32]) {
     let mut bytes = [0u8; 32768];
     let answer = pmd_reading::pmd_read(kind, value, &mut *run);
-    vectors::told(answer);
-    vectors::shown_numbers(run);
+    told(answer);
+    shown_numbers(run);
     let n = vectors::laid(run, &mut bytes);
-    vectors::crc_of(&bytes[0..n]);
+    crc_of(&bytes[0..n]);
 }
 
 // Writes numbers into a run of so many bytes.
@@ -46,16 +147,16 @@ fn write(kind: u32, numbers: &[u32], room: usize) {
         cut();
         return;
     }
-    vectors::text(b"write ");
+    text(b"write ");
     asked(kind, numbers.len(), b" numbers", room);
     write_run(kind, numbers, &mut bytes[0..room]);
 }
 
 fn write_run(kind: u32, numbers: &[u32], run: &mut [u8]) {
     let answer = pmd_writing::pmd_write(kind, numbers, &mut *run);
-    vectors::told(answer);
-    vectors::shown_bytes(run);
-    vectors::crc_of(run);
+    told(answer);
+    shown_bytes(run);
+    crc_of(run);
 }
 
 fn write_given(kind: u32, given: &[u8], room: usize) {
@@ -65,14 +166,14 @@ fn write_given(kind: u32, given: &[u8], room: usize) {
 }
 
 fn level(gain: u32) {
-    vectors::number(b"gain ", gain);
-    vectors::text(b": ");
+    number(b"gain ", gain);
+    text(b": ");
     match pmd::gain(gain) {
-        Level::Muted => vectors::text(b"muted"),
-        Level::HalfDecibels(n) => vectors::signed(n),
-        Level::Refused { why, place } => vectors::refused(why, place),
+        Level::Muted => text(b"muted"),
+        Level::HalfDecibels(n) => signed(n),
+        Level::Refused { why, place } => refused(why, place),
     }
-    vectors::text(b"\n");
+    text(b"\n");
 }
 
 fn run(call: u8, number: u32, room: usize, parts: &[u8]) {
@@ -104,8 +205,8 @@ fn case(s: &[u8]) {
         cut();
         return;
     }
-    vectors::text(&s[10..begin]);
-    vectors::text(b": ");
+    text(&s[10..begin]);
+    text(b": ");
     run(
         s[0],
         numbers::be32(s, 1),
@@ -129,8 +230,8 @@ fn cases(s: &[u8]) {
         at = begin + size;
         n += 1;
     }
-    vectors::count(b"", n);
-    vectors::text(b" cases\n");
+    count(b"", n);
+    text(b" cases\n");
 }
 
 fn main() {

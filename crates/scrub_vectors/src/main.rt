@@ -5,6 +5,7 @@
 // pack follow; every byte of the buffer holds EE before the scrub.
 ghost use Prim.Native.Nat.{_≤_};
 use libc::STDIN_FILENO;
+use libc::STDOUT_FILENO;
 use refusals::Answer;
 
 // A longer buffer than this is told by its front, by the end of the pack in it, and by its CRC.
@@ -14,11 +15,33 @@ const FRONT: usize = 48;
 
 const END: usize = 16;
 
+fn text(s: &[u8]) {
+    io::write_all(STDOUT_FILENO, s);
+}
+
+fn decimal(n: usize) {
+    io::print_decimal(STDOUT_FILENO, n as u64);
+}
+
+fn byte(b: u8) {
+    io::print_hex(STDOUT_FILENO, b as u64, 2);
+}
+
+// The bytes of `s` in hexadecimal, a space before each.
+fn bytes(s: &[u8]) {
+    let mut i: usize = 0;
+    while i < s.len() {
+        text(b" ");
+        byte(s[i]);
+        i += 1;
+    }
+}
+
 // The bytes of `s` from `from` up to `end`.
 fn part(s: &[u8], from: usize, end: usize) {
     if from <= end {
         if end <= s.len() {
-            vectors::bytes(&s[from..end]);
+            bytes(&s[from..end]);
         }
     }
 }
@@ -26,35 +49,39 @@ fn part(s: &[u8], from: usize, end: usize) {
 // A buffer whose first `end` bytes are a pack. The CRC of a pack with its own CRC and of zeros after it is 0, whatever it holds, so that the end of
 // the pack, which has that CRC, stands beside it.
 fn buffer(s: &[u8], end: usize) {
-    vectors::count(b"  ", s.len());
+    text(b"  ");
+    decimal(s.len());
     if s.len() <= SHORT {
-        vectors::text(b" bytes:");
-        vectors::bytes(s);
+        text(b" bytes:");
+        bytes(s);
     } else {
-        vectors::text(b" bytes, CRC ");
-        vectors::crc(s);
-        vectors::text(b":");
+        text(b" bytes, CRC ");
+        io::print_hex(STDOUT_FILENO, crc::crc(s) as u64, 8);
+        text(b":");
         part(s, 0, FRONT);
-        vectors::text(b" ..");
+        text(b" ..");
         if end >= END {
             part(s, end - END, end);
         }
     }
-    vectors::text(b"\n");
+    text(b"\n");
 }
 
 // The answer, and what the buffer then holds.
 fn told(answer: Answer, out: &[u8]) {
     match answer {
         Answer::Done(size) => {
-            vectors::count(b": done ", size);
-            vectors::text(b"\n");
+            text(b": done ");
+            decimal(size);
+            text(b"\n");
             buffer(out, size);
         }
         Answer::Refused { why, place } => {
-            vectors::number(b": refused ", refusals::number(why));
-            vectors::count(b" ", place);
-            vectors::text(b"\n");
+            text(b": refused ");
+            decimal(refusals::number(why) as usize);
+            text(b" ");
+            decimal(place);
+            text(b"\n");
             buffer(out, 0);
         }
     }
@@ -65,7 +92,7 @@ fn filled(s: &mut [u8]) -> bool {
     if io::read_full(STDIN_FILENO, s) == s.len() {
         return true;
     }
-    vectors::text(b"the cases end early\n");
+    text(b"the cases end early\n");
     false
 }
 
@@ -80,7 +107,7 @@ fn run(name: &mut [u8], sheet: &mut [u8], pack: &mut [u8], out: &mut [u8]) -> bo
     if !filled(pack) {
         return false;
     }
-    vectors::text(name);
+    text(name);
     let answer = scrub::scrub(sheet, pack, out);
     told(answer, out);
     true
@@ -110,7 +137,7 @@ fn case() -> bool {
         return false;
     }
     if got < 16 {
-        vectors::text(b"the cases end early\n");
+        text(b"the cases end early\n");
         return false;
     }
     let name_len = numbers::be32(&head, 0) as usize;
@@ -120,7 +147,7 @@ fn case() -> bool {
     if name_len <= 256 && sheet_len <= 4096 && pack_len <= 65536 && room <= 65536 {
         return rest(name_len, sheet_len, pack_len, room);
     }
-    vectors::text(b"a case is too long\n");
+    text(b"a case is too long\n");
     false
 }
 

@@ -1,10 +1,10 @@
--- `vectors::bytes` is safe and ends: its index stays within the slice.
+-- `pmd_vectors::bytes` is safe and ends: its index stays within the slice.
 -- Assumes nothing.
 use Prim.Native.Nat.{_≤_, _-_}
 use borrow.Author.Needs.{needs}
 use lib.ListN.{length}
-use Rattle.vectors.proofs.bytes.Statement.{statement}
-use Rattle.vectors.proofs.bytes.Tie as tie
+use Rattle.pmd_vectors.proofs.bytes.Statement.{statement}
+use Rattle.pmd_vectors.proofs.bytes.Tie as tie
 
 abbrev Inv-loop : tie.InvT-loop
 Inv-loop s i₀ t3 i = i ≤ length s

@@ -1,10 +1,10 @@
--- `vectors::shown_numbers` is safe and ends: its index stays within the slice.
+-- `pmd_vectors::shown_numbers` is safe and ends: its index stays within the slice.
 -- Assumes nothing.
 use Prim.Native.Nat.{_≤_, _-_}
 use borrow.Author.Needs.{needs}
 use lib.ListN.{length}
-use Rattle.vectors.proofs.shown_numbers.Statement.{statement}
-use Rattle.vectors.proofs.shown_numbers.Tie as tie
+use Rattle.pmd_vectors.proofs.shown_numbers.Statement.{statement}
+use Rattle.pmd_vectors.proofs.shown_numbers.Tie as tie
 
 abbrev Inv-loop : tie.InvT-loop
 Inv-loop s end i₀ t4 i = (i ≤ end) × (end ≤ length s)

@@ -1,4 +1,4 @@
--- `vectors::signed` is safe: a number of 32 bits and its negative fit in 64.
+-- `pmd_vectors::signed` is safe: a number of 32 bits and its negative fit in 64.
 -- Assumes nothing.
 use Prim.Native.Nat.{_<_}
 use mathlib.Core.Path.{_≡_, sym, ap, subst, _∙_}
@@ -13,8 +13,8 @@ use mir.Syntax.{w32, w64}
 use mir.Val.{Fits, SFits, toZ, ofZ}
 use mir.Facts.{toZ-ofZ, sfits-widen, fits-natAbs}
 use Rattle.lists.proofs.Cases.{absurd-eq}
-use Rattle.vectors.proofs.signed.Statement.{statement}
-use Rattle.vectors.proofs.signed.Tie as tie
+use Rattle.pmd_vectors.proofs.signed.Statement.{statement}
+use Rattle.pmd_vectors.proofs.signed.Tie as tie
 
 below-fits : (n : ℤ) → ltZ n (pos 0) ≡ true → SFits w32 n → SFits w64 (pos 0 -ℤ n)
 below-fits (pos k) e s = absurd (let z : k < 0 = ltb-true k 0 e in omega arith)
