@@ -6,7 +6,7 @@ ghost use lib.ListN.{take};
 ghost use Rattle.pack.specs.Fixed.{itemCap, mappingCap};
 ghost use Rattle.pack.specs.Reading.{padded};
 ghost use Rattle.pack.specs.Rows.{NameFits, ItemFits, RowsFit};
-ghost use Rattle.sheet.specs.Judged.{asks, Holds};
+ghost use Rattle.sheet.specs.Judged.{asks, Holds, Short};
 ghost use Rattle.naming.specs.Marks.{flagsOf, markName, markItem, marksOf, Noted, PlacesFit};
 ghost use Rattle.naming.specs.Given.{clearAt, given, byIndex, EachBelow};
 use pack::Item;
@@ -49,9 +49,9 @@ pub fn flags(s: &[u8], asked: Asked, p: &[u8], places: [u32; 32], mapped: usize)
 }
 
 // Whether the payloads of a name stay.
-fn mark_name(s: &[u8], asked: Asked, flags: [bool; 32], name: Name) -> Mark
-    requires { ⌜ NameFits name × Holds (now s) asked ⌝ }
-    ensures { λ r. ⌜ r ≡ markName flags (asks (now (s .entry)) asked) name ⌝ }
+fn mark_name(s: &[u8], asked: Asked, flags: &[bool; 32], short: &[bool; 128], name: Name) -> Mark
+    requires { ⌜ NameFits name × Holds (now s) asked × Short (asks (now s) asked) (now short) ⌝ }
+    ensures { λ r. ⌜ r ≡ markName (now (flags .entry)) (asks (now (s .entry)) asked) name ⌝ }
 {
     match name {
         Name::Label(i) => {
@@ -61,7 +61,7 @@ fn mark_name(s: &[u8], asked: Asked, flags: [bool; 32], name: Name) -> Mark
             Mark::Gone
         }
         Name::Number(t) => {
-            if sheet::keeps_number(s, asked, t) {
+            if sheet::keeps_number(s, asked, short, t) {
                 return Mark::Number(t);
             }
             Mark::Gone
@@ -69,18 +69,18 @@ fn mark_name(s: &[u8], asked: Asked, flags: [bool; 32], name: Name) -> Mark
     }
 }
 
-fn mark_item(s: &[u8], asked: Asked, flags: [bool; 32], item: Item) -> Mark
-    requires { ⌜ ItemFits item × Holds (now s) asked ⌝ }
-    ensures { λ r. ⌜ r ≡ markItem flags (asks (now (s .entry)) asked) item ⌝ }
+fn mark_item(s: &[u8], asked: Asked, flags: &[bool; 32], short: &[bool; 128], item: Item) -> Mark
+    requires { ⌜ ItemFits item × Holds (now s) asked × Short (asks (now s) asked) (now short) ⌝ }
+    ensures { λ r. ⌜ r ≡ markItem (now (flags .entry)) (asks (now (s .entry)) asked) item ⌝ }
 {
     match item {
         Item::Single(x) => {
             let name = x.name;
-            mark_name(s, asked, flags, name)
+            mark_name(s, asked, flags, short, name)
         }
         Item::Inner(x) => {
             let inner = x.name;
-            mark_name(s, asked, flags, inner)
+            mark_name(s, asked, flags, short, inner)
         }
         Item::Sync(_) => Mark::Gone,
     }
@@ -91,6 +91,7 @@ pub fn note(s: &[u8], asked: Asked, flags: [bool; 32], items: [Slot; 64], count:
     requires { ⌜ (count ≤ 64) × RowsFit (take count items) × Holds (now s) asked ⌝ }
     ensures { λ r. ⌜ Noted (marksOf flags (asks (now (s .entry)) asked) (take count items)) r ⌝ }
 {
+    let short = sheet::short_numbers(s, asked);
     let gone = Marked { mark: Mark::Gone };
     let mut marks = [gone; 64];
     let mut order = [0u32; 64];
@@ -101,7 +102,7 @@ pub fn note(s: &[u8], asked: Asked, flags: [bool; 32], items: [Slot; 64], count:
     while i < count {
         let slot = items[i];
         let item = slot.item;
-        let mark = mark_item(s, asked, flags, item);
+        let mark = mark_item(s, asked, &flags, &short, item);
         marks[i] = Marked { mark: mark };
         i += 1;
         match mark {
@@ -131,8 +132,8 @@ pub fn note(s: &[u8], asked: Asked, flags: [bool; 32], items: [Slot; 64], count:
 }
 
 // The first clear mark from `from` on, or the place after the marks.
-fn clear_from(taken: [bool; 64], from: usize) -> usize
-    ensures { λ r. ⌜ (r ≡ clearAt taken from) × (r ≤ from + 64) ⌝ }
+fn clear_from(taken: &[bool; 64], from: usize) -> usize
+    ensures { λ r. ⌜ (r ≡ clearAt (now (taken .entry)) from) × (r ≤ from + 64) ⌝ }
 {
     let mut next = from;
     while next < 64 {
@@ -153,7 +154,7 @@ pub fn assign(taken: [bool; 64], count: usize) -> [u32; 64]
     let mut next: usize = 0;
     let mut k: usize = 0;
     while k < count {
-        let free = clear_from(taken, next);
+        let free = clear_from(&taken, next);
         tags[k] = 64 + free as u32;
         next = free + 1;
         k += 1;

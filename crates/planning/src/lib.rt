@@ -27,9 +27,9 @@ pub struct Plan {
 }
 
 // The tag that a row is written with, 0 if it goes.
-fn tag_of(mark: Mark, index: [u32; 32]) -> u32
+fn tag_of(mark: Mark, index: &[u32; 32]) -> u32
     requires { ⌜ MarkFits mark ⌝ }
-    ensures { λ r. ⌜ r ≡ tagOf index mark ⌝ }
+    ensures { λ r. ⌜ r ≡ tagOf (now (index .entry)) mark ⌝ }
 {
     match mark {
         Mark::Gone => 0,
@@ -128,7 +128,7 @@ pub fn plan_rows(items: [Slot; 64], marks: [Marked; 64], index: [u32; 32], count
         let item = slot.item;
         let marked = marks[i];
         let mark = marked.mark;
-        let tag = tag_of(mark, index);
+        let tag = tag_of(mark, &index);
         let step = plan_row(item, tag, inner);
         let op = step.op;
         ops[i] = OpSlot { op };

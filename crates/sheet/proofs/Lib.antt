@@ -1,3 +1,4 @@
 pub mod Runs
 pub mod Header
 pub mod Asking
+pub mod Short

@@ -1,14 +1,17 @@
 -- The keep sheet as the code holds it: its bytes stay lent, and only its two counts are kept.
 -- Assumes nothing.
+use mathlib.Core.Path.{_≡_}
 use mathlib.Core.List.{List, []}
-use mathlib.Core.Bool.{cond, _&&_}
-use Prim.Native.Nat.{ℕ, _+_, _*_, _≤_}
+use mathlib.Core.Bool.{Bool, false, cond, _&&_}
+use Prim.Native.Nat.{ℕ, _+_, _*_, _<_, _≤_}
 use lib.Dec.{eqb}
-use lib.ListN.{length}
+use lib.ListN.{length, getD}
 use Rattle.refusals.specs.declared.Refusal.the-variants as R
 use Rattle.refusals.specs.Outcomes.{Outcome, fine, refused}
 use Rattle.numbers.specs.Big.{bigAt}
+use Rattle.pack.specs.Said.{number}
 use Rattle.kept.specs.Sheet.{Sheet, everything, these, labelsAt, numbersAt, labelsGood, numbersGood, headerGood, sheetLabels, sheetNumbers}
+use Rattle.kept.specs.Kept.{keeps}
 use Rattle.sheet.specs.declared.Asked.{Asked}
 use Rattle.sheet.specs.declared.Asked.the-variants as K
 
@@ -35,3 +38,7 @@ abbrev pub Holds : List ℕ → Asked → Type 0
 Holds s K.All = Unit
 Holds s (K.These l t) = 8 + 16 * l + 4 * t ≤ length s
 Holds s K.Refused = Unit
+
+-- for each number below 128 whether the sheet keeps its payloads
+abbrev pub Short : Sheet → List Bool → Type 0
+Short sheet table = (n : ℕ) → n < 128 → getD table n false ≡ keeps sheet (number n)

@@ -1,12 +1,13 @@
 // The keep sheet: judged once, then asked for each name. Its entries are read where they stand.
 ghost use mathlib.Core.Path.{_≡_};
-ghost use Prim.Native.Nat.{_+_, _*_, _≤_};
-ghost use lib.ListN.{length, take, drop};
+ghost use mathlib.Core.Bool.{false};
+ghost use Prim.Native.Nat.{ℕ, _+_, _*_, _<_, _≤_};
+ghost use lib.ListN.{length, take, drop, getD};
 ghost use Rattle.lists.specs.Same.{among, listed};
 ghost use Rattle.pack.specs.Said.{label, number};
 ghost use Rattle.kept.specs.Sheet.{labelsAt, numbersAt, labelsGood, numbersGood, headerGood};
 ghost use Rattle.kept.specs.Kept.{keeps};
-ghost use Rattle.sheet.specs.Judged.{judged, asks, Holds};
+ghost use Rattle.sheet.specs.Judged.{judged, asks, Holds, Short};
 
 // What a sheet asks for: all, its labels and numbers by their counts, or nothing since it is malformed.
 pub enum Asked {
@@ -50,6 +51,25 @@ fn has_number(s: &[u8], at: usize, count: usize, n: u32) -> bool
         next += 4;
     }
     false
+}
+
+// For each number below 128 whether it is one of the `count` numbers of `s` from `at` on.
+fn short_among(s: &[u8], at: usize, count: usize) -> [bool; 128]
+    requires { ⌜ at + 4 * count ≤ length (now s) ⌝ }
+    ensures { λ r. ⌜ ((n : ℕ) → n < 128 → getD r n false ≡ among n (numbersAt (now (s .entry)) at count)) ⌝ }
+{
+    let mut found = [false; 128];
+    let mut left = count;
+    let mut next = at;
+    while left > 0 {
+        let n = numbers::be32(s, next);
+        if n < 128 {
+            found[n as usize] = true;
+        }
+        left -= 1;
+        next += 4;
+    }
+    found
 }
 
 // No label from `at` on is one of the three utility labels, and none repeats.
@@ -156,11 +176,26 @@ pub fn keeps_label(s: &[u8], asked: Asked, p: &[u8], at: usize) -> bool
     }
 }
 
-// Whether a sheet keeps the payloads of a tag number that the pack does not map.
-pub fn keeps_number(s: &[u8], asked: Asked, n: u32) -> bool
+// For each number below 128 whether a sheet keeps its payloads. Most tags have one byte: a pack asks this once, and not the sheet for each payload.
+pub fn short_numbers(s: &[u8], asked: Asked) -> [bool; 128]
     requires { ⌜ Holds (now s) asked ⌝ }
+    ensures { λ r. ⌜ Short (asks (now (s .entry)) asked) r ⌝ }
+{
+    match asked {
+        Asked::All => [true; 128],
+        Asked::These { labels, numbers } => short_among(s, 8 + 16 * labels, numbers),
+        Asked::Refused => [false; 128],
+    }
+}
+
+// Whether a sheet keeps the payloads of a tag number that the pack does not map. `short` has its answers below 128.
+pub fn keeps_number(s: &[u8], asked: Asked, short: &[bool; 128], n: u32) -> bool
+    requires { ⌜ Holds (now s) asked × Short (asks (now s) asked) (now short) ⌝ }
     ensures { λ r. ⌜ r ≡ keeps (asks (now (s .entry)) asked) (number n) ⌝ }
 {
+    if n < 128 {
+        return short[n as usize];
+    }
     match asked {
         Asked::All => true,
         Asked::These { labels, numbers } => has_number(s, 8 + 16 * labels, numbers, n),

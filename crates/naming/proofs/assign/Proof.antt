@@ -8,10 +8,10 @@ use Rattle.naming.proofs.assign.Statement.{statement}
 use Rattle.naming.proofs.assign.Tie as tie
 
 abbrev Inv-loop : tie.InvT-loop
-Inv-loop taken count tags₀ next₀ k₀ tags next k = Giving taken count tags next k
+Inv-loop count taken tags₀ next₀ k₀ tags next k = Giving taken count tags next k
 
 abbrev μ-loop : tie.MeasureT-loop
-μ-loop taken count tags₀ next₀ k₀ tags next k = count - k
+μ-loop count taken tags₀ next₀ k₀ tags next k = count - k
 
 loop-holds : tie.Need-loop-holds Inv-loop μ-loop
 loop-holds c = giving-begins _ _
@@ -22,34 +22,34 @@ clear-from-requires c κs = search needs
 cast-tags : tie.Need-cast-tags Inv-loop μ-loop
 cast-tags c =
     let b = c .clear-from .ensures .1 in
-    let g = c .before .before .loop .inv .most in
-    let p = c .before .before .before .pre in
+    let g = c .before .before .before .loop .inv .most in
+    let p = c .before .before .before .before .pre in
     omega arith
 
 add-tags : tie.Need-add-tags Inv-loop μ-loop
 add-tags c =
     let b = c .clear-from .ensures .1 in
-    let g = c .before .before .loop .inv .most in
-    let p = c .before .before .before .pre in
+    let g = c .before .before .before .loop .inv .most in
+    let p = c .before .before .before .before .pre in
     omega arith
 
 mul-tags : tie.Need-mul-tags Inv-loop μ-loop
 mul-tags c =
-    let g = c .before .before .loop .inv .most in
-    let p = c .before .before .before .pre in
+    let g = c .before .before .before .loop .inv .most in
+    let p = c .before .before .before .before .pre in
     omega arith
 
 array-write-tags : tie.Need-array-write-tags Inv-loop μ-loop
 array-write-tags c =
-    let g = c .before .before .loop .inv .most in
-    let p = c .before .before .before .pre in
+    let g = c .before .before .before .loop .inv .most in
+    let p = c .before .before .before .before .pre in
     omega arith
 
 add-next : tie.Need-add-next Inv-loop μ-loop
 add-next c =
     let b = c .clear-from .ensures .1 in
-    let g = c .before .before .loop .inv .most in
-    let p = c .before .before .before .pre in
+    let g = c .before .before .before .loop .inv .most in
+    let p = c .before .before .before .before .pre in
     omega arith
 
 add-k : tie.Need-add-k Inv-loop μ-loop
@@ -59,7 +59,7 @@ loop-less : tie.Need-loop-less Inv-loop μ-loop
 loop-less c = omega arith
 
 loop-again : tie.Need-loop-again Inv-loop μ-loop
-loop-again c = giving-step (c .before .before .loop .inv) _ (c .before .before .before .pre) (c .before .loop-test .taken) (c .clear-from .ensures .1) (c .clear-from .ensures .0)
+loop-again c = giving-step (c .before .before .before .loop .inv) _ (c .before .before .before .before .pre) (c .before .before .loop-test .taken) (c .clear-from .ensures .1) (c .clear-from .ensures .0)
 
 returns : tie.Need-returns Inv-loop μ-loop
 returns c = giving-ends (c .before .loop .inv) (c .loop-test .left)

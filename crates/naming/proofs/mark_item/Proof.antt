@@ -11,13 +11,13 @@ enum-known-item : tie.Need-enum-known-item
 enum-known-item c = search needs
 
 mark-name-requires : tie.Need-mark-name-requires
-mark-name-requires c κs = (single-fits _ (c .before .item .given .1) (c .before .before .before .before .pre .0), c .before .before .before .before .pre .1)
+mark-name-requires c κs = (single-fits _ (c .before .item .given .1) (c .before .before .before .before .pre .0), c .before .before .before .before .pre .1, c .before .before .before .before .pre .2)
 
 enum-known-item-2 : tie.Need-enum-known-item-2
 enum-known-item-2 c = search needs
 
 mark-name-requires-2 : tie.Need-mark-name-requires-2
-mark-name-requires-2 c κs = (inner-fits _ (c .before .item2 .given .1) (c .before .before .before .before .pre .0), c .before .before .before .before .pre .1)
+mark-name-requires-2 c κs = (inner-fits _ (c .before .item2 .given .1) (c .before .before .before .before .pre .0), c .before .before .before .before .pre .1, c .before .before .before .before .pre .2)
 
 enum-told : tie.Need-enum-told
 enum-told c = search needs

@@ -14,11 +14,11 @@ enum-known-name c = search needs
 cast-if1 : tie.Need-cast-if1
 cast-if1 c = search needs
 
-array-read-if1 : tie.Need-array-read-if1
-array-read-if1 c = label-fits _ (c .before .name .given .1) (c .before .before .before .before .pre .0)
+element-copy-out-if1 : tie.Need-element-copy-out-if1
+element-copy-out-if1 c = label-fits _ (c .before .name .given .1) (c .before .before .before .before .pre .0)
 
 returns : tie.Need-returns
-returns c = label-stays _ _ _ (c .before .before .name .given .1) (c .if1 .taken)
+returns c = label-stays _ _ _ (c .before .before .before .name .given .1) (c .if1 .taken)
 
 enum-known-name-2 : tie.Need-enum-known-name-2
 enum-known-name-2 c = search needs
@@ -30,7 +30,7 @@ returns-2 : tie.Need-returns-2
 returns-2 c = number-stays _ _ _ (c .before .before .before .name2 .given .1) (sym (c .before .keeps-number .ensures) ∙ c .if2 .taken)
 
 returns-3 : tie.Need-returns-3
-returns-3 c = label-goes _ _ _ (c .before .before .name .given .1) (c .if1 .left)
+returns-3 c = label-goes _ _ _ (c .before .before .before .name .given .1) (c .if1 .left)
 
 returns-4 : tie.Need-returns-4
 returns-4 c = number-goes _ _ _ (c .before .before .before .name2 .given .1) (sym (c .before .keeps-number .ensures) ∙ c .if2 .left)
@@ -41,7 +41,7 @@ mark-name-spec =
     (tie.spec
     enum-known-name
     cast-if1
-    array-read-if1
+    element-copy-out-if1
     returns
     enum-known-name-2
     keeps-number-requires

@@ -25,70 +25,82 @@ abbrev none : Slot
 none = record { item = I.Single (record { name = N.Label 0; start = 0; «value_start» = 0; «value_len» = 0 }) }
 
 abbrev Inv-loop : tie.InvT-loop
-Inv-loop s asked flags count items marks₀ order₀ labels₀ taken₀ seen₀ i₀ marks order labels taken seen i = Noting (λ (x : Slot). markItem flags (asks s asked) (x .item)) (take count items) marks order labels taken seen i
+Inv-loop s asked count flags items short marks₀ order₀ labels₀ taken₀ seen₀ i₀ marks order labels taken seen i = Noting (λ (x : Slot). markItem flags (asks s asked) (x .item)) (take count items) marks order labels taken seen i
 
 abbrev μ-loop : tie.MeasureT-loop
-μ-loop s asked flags count items marks₀ order₀ labels₀ taken₀ seen₀ i₀ marks order labels taken seen i = count - i
+μ-loop s asked count flags items short marks₀ order₀ labels₀ taken₀ seen₀ i₀ marks order labels taken seen i = count - i
+
+short-numbers-requires : tie.Need-short-numbers-requires Inv-loop μ-loop
+short-numbers-requires c κs = search needs
 
 loop-holds : tie.Need-loop-holds Inv-loop μ-loop
 loop-holds c = noting-begins _ _
 
+-- where the call began, and where the row that was marked is one of the loop's
+abbrev start : tie.In-loop Inv-loop μ-loop → tie.Start Inv-loop μ-loop
+start c = c .before .before .before .before
+
+abbrev row : tie.After-mark-item Inv-loop μ-loop → tie.In-loop Inv-loop μ-loop
+row m = m .before .before .before .before
+
 long : (c : tie.In-loop Inv-loop μ-loop)
-    → length (take (c .before .before .before .args .count) (c .before .before .before .args .t4)) ≡ c .before .before .before .args .count
+    → length (take ((start c) .args .count) ((start c) .args .t4)) ≡ (start c) .args .count
 long c =
-    let b = c .before .before .before in
+    let b = start c in
     let l : length (b .args .t4) ≡ 64 = search needs in
     let p = b .pre .0 in
     length-take-le _ _ (omega arith)
 
 here : (c : tie.In-loop Inv-loop μ-loop)
-    → getD (c .before .before .before .args .t4) (c .before .loop .i) none
-    ≡ getD (take (c .before .before .before .args .count) (c .before .before .before .args .t4)) (c .before .loop .i) none
+    → getD ((start c) .args .t4) (c .before .loop .i) none
+    ≡ getD (take ((start c) .args .count) ((start c) .args .t4)) (c .before .loop .i) none
 here c =
-    let b = c .before .before .before in
+    let b = start c in
     sym (getD-take (b .args .count) (b .args .t4) (c .before .loop .i) none (omega arith))
 
-fits : (c : tie.In-loop Inv-loop μ-loop) → ItemFits ((getD (c .before .before .before .args .t4) (c .before .loop .i) none) .item)
+fits : (c : tie.In-loop Inv-loop μ-loop) → ItemFits ((getD ((start c) .args .t4) (c .before .loop .i) none) .item)
 fits c =
     let l = long c in
-    let b = c .before .before .before in
+    let b = start c in
     let j : c .before .loop .i < length (take (b .args .count) (b .args .t4)) = omega arith in
     rw (here c) (row-fits (take (b .args .count) (b .args .t4)) _ none (b .pre .1) j)
 
 -- the row is one of those, and its mark is what was asked for
 inside : (m : tie.After-mark-item Inv-loop μ-loop)
-    → m .before .before .before .loop .i < length (take (m .before .before .before .before .before .args .count) (m .before .before .before .before .before .args .t4))
-inside m = let l = long (m .before .before) in omega arith
+    → (row m) .before .loop .i < length (take ((start (row m)) .args .count) ((start (row m)) .args .t4))
+inside m = let l = long (row m) in omega arith
 
-room : (m : tie.After-mark-item Inv-loop μ-loop) → m .before .before .before .loop .i < 64
-room m = let p = m .before .before .before .before .before .pre .0 in omega arith
+room : (m : tie.After-mark-item Inv-loop μ-loop) → (row m) .before .loop .i < 64
+room m = let p = (start (row m)) .pre .0 in omega arith
 
 value : (m : tie.After-mark-item Inv-loop μ-loop)
     → m .mark-item .result
-    ≡ markItem (m .before .before .before .before .before .args .flags)
-    (asks (m .before .before .before .before .before .args .s .now) (m .before .before .before .before .before .args .asked))
-    ((getD (take (m .before .before .before .before .before .args .count) (m .before .before .before .before .before .args .t4)) (m .before .before .before .loop .i) none) .item)
+    ≡ markItem ((start (row m)) .args .t3)
+    (asks ((start (row m)) .args .s .now) ((start (row m)) .args .asked))
+    ((getD (take ((start (row m)) .args .count) ((start (row m)) .args .t4)) ((row m) .before .loop .i) none) .item)
 value m =
-    let b = m .before .before .before .before .before in
-    m .mark-item .ensures ∙ ap (λ (x : Slot). markItem (b .args .flags) (asks (b .args .s .now) (b .args .asked)) (x .item)) (here (m .before .before))
+    let b = start (row m) in
+    m .mark-item .ensures ∙ ap (λ (x : Slot). markItem (b .args .t3) (asks (b .args .s .now) (b .args .asked)) (x .item)) (here (row m))
 
 low : (m : tie.After-mark-item Inv-loop μ-loop) (k : ℕ) → m .mark-item .result ≡ M.Label k → k < 32
-low m k e = mark-fits _ _ _ k (fits (m .before .before)) (sym (m .mark-item .ensures) ∙ e)
+low m k e = mark-fits _ _ _ k (fits (row m)) (sym (m .mark-item .ensures) ∙ e)
 
 mul-slot : tie.Need-mul-slot Inv-loop μ-loop
-mul-slot c = let p = c .before .before .before .pre .0 in omega arith
+mul-slot c = let p = (start c) .pre .0 in omega arith
 
 array-copy-out-slot : tie.Need-array-copy-out-slot Inv-loop μ-loop
-array-copy-out-slot c = let p = c .before .before .before .pre .0 in omega arith
+array-copy-out-slot c = let p = (start c) .pre .0 in omega arith
 
 mark-item-requires : tie.Need-mark-item-requires Inv-loop μ-loop
-mark-item-requires c κs = (fits (c .before), c .before .before .before .before .pre .2)
+mark-item-requires c κs =
+    let r = c .before .before .before in
+    (fits r, (start r) .pre .2, r .before .before .short-numbers .ensures)
 
 mul-marks : tie.Need-mul-marks Inv-loop μ-loop
-mul-marks c = let p = c .before .before .before .before .before .pre .0 in omega arith
+mul-marks c = let p = (start (row c)) .pre .0 in omega arith
 
 array-set-from-marks : tie.Need-array-set-from-marks Inv-loop μ-loop
-array-set-from-marks c = let p = c .before .before .before .before .before .pre .0 in omega arith
+array-set-from-marks c = let p = (start (row c)) .pre .0 in omega arith
 
 add-i : tie.Need-add-i Inv-loop μ-loop
 add-i c = omega arith
@@ -102,7 +114,7 @@ loop-less c = omega arith
 loop-again : tie.Need-loop-again Inv-loop μ-loop
 loop-again c =
     let m = c .before .before in
-    let l = m .before .before .before .loop in
+    let l = (row m) .before .loop in
     noting-step none _ (inside m) (value m) (note-gone (l .inv .notes) (l .i) (noting-here (l .inv)) (room m) _ (c .enum-told .given .1))
 
 enum-known-mark : tie.Need-enum-known-mark Inv-loop μ-loop
@@ -123,7 +135,7 @@ loop-less-2 c = omega arith
 loop-again-2 : tie.Need-loop-again-2 Inv-loop μ-loop
 loop-again-2 c =
     let m = c .before .before .before .before .before in
-    let l = m .before .before .before .loop in
+    let l = (row m) .before .loop in
     noting-step none _ (inside m) (value m)
     (note-inside (l .inv .notes) (l .i) (noting-here (l .inv)) (room m) _ _ (c .before .before .before .mark .given .1) (c .before .if1 .taken) (c .if2 .taken))
 
@@ -133,7 +145,7 @@ loop-less-3 c = omega arith
 loop-again-3 : tie.Need-loop-again-3 Inv-loop μ-loop
 loop-again-3 c =
     let m = c .before .before .before .before .before in
-    let l = m .before .before .before .loop in
+    let l = (row m) .before .loop in
     noting-step none _ (inside m) (value m)
     (note-outside (l .inv .notes) (l .i) (noting-here (l .inv)) (room m) _ _ (c .before .before .before .mark .given .1) (inr (c .if2 .left)))
 
@@ -143,7 +155,7 @@ loop-less-4 c = omega arith
 loop-again-4 : tie.Need-loop-again-4 Inv-loop μ-loop
 loop-again-4 c =
     let m = c .before .before .before .before in
-    let l = m .before .before .before .loop in
+    let l = (row m) .before .loop in
     noting-step none _ (inside m) (value m)
     (note-outside (l .inv .notes) (l .i) (noting-here (l .inv)) (room m) _ _ (c .before .before .mark .given .1) (inl (c .if1 .left)))
 
@@ -163,13 +175,13 @@ array-write-seen : tie.Need-array-write-seen Inv-loop μ-loop
 array-write-seen c = low (c .before .before .before .before) _ (c .before .before .mark2 .given .1)
 
 mul-order : tie.Need-mul-order Inv-loop μ-loop
-mul-order c = let l = c .before .before .before .before .before .before .before .loop in let f = noting-few (l .inv) in let r = room (c .before .before .before .before) in omega arith
+mul-order c = let m = c .before .before .before .before in let f = noting-few ((row m) .before .loop .inv) in let r = room m in omega arith
 
 array-write-order : tie.Need-array-write-order Inv-loop μ-loop
-array-write-order c = let l = c .before .before .before .before .before .before .before .loop in let f = noting-few (l .inv) in let r = room (c .before .before .before .before) in omega arith
+array-write-order c = let m = c .before .before .before .before in let f = noting-few ((row m) .before .loop .inv) in let r = room m in omega arith
 
 add-labels : tie.Need-add-labels Inv-loop μ-loop
-add-labels c = let l = c .before .before .before .before .before .before .before .loop in let f = noting-few (l .inv) in let r = room (c .before .before .before .before) in omega arith
+add-labels c = let m = c .before .before .before .before in let f = noting-few ((row m) .before .loop .inv) in let r = room m in omega arith
 
 loop-less-5 : tie.Need-loop-less-5 Inv-loop μ-loop
 loop-less-5 c = omega arith
@@ -177,7 +189,7 @@ loop-less-5 c = omega arith
 loop-again-5 : tie.Need-loop-again-5 Inv-loop μ-loop
 loop-again-5 c =
     let m = c .before .before .before .before in
-    let l = m .before .before .before .loop in
+    let l = (row m) .before .loop in
     noting-step none _ (inside m) (value m)
     (note-new (l .inv .notes) (l .i) (noting-here (l .inv)) (room m) _ _ (c .before .before .mark2 .given .1) (low m _ (c .before .before .mark2 .given .1)) (not-true _ (c .if3 .taken)))
 
@@ -187,13 +199,13 @@ loop-less-6 c = omega arith
 loop-again-6 : tie.Need-loop-again-6 Inv-loop μ-loop
 loop-again-6 c =
     let m = c .before .before .before .before in
-    let l = m .before .before .before .loop in
+    let l = (row m) .before .loop in
     noting-step none _ (inside m) (value m)
     (note-seen (l .inv .notes) (l .i) (noting-here (l .inv)) (room m) _ _ (c .before .before .mark2 .given .1) (low m _ (c .before .before .mark2 .given .1)) (not-false _ (c .if3 .left)))
 
 returns : tie.Need-returns Inv-loop μ-loop
 returns c =
-    let b = c .before .before .before in
+    let b = c .before .before .before .before in
     let l : length (b .args .t4) ≡ 64 = search needs in
     let p = b .pre .0 in
     let n : length (take (b .args .count) (b .args .t4)) ≡ b .args .count = length-take-le _ _ (omega arith) in
@@ -205,6 +217,7 @@ note-spec =
     (tie.spec
     Inv-loop
     μ-loop
+    short-numbers-requires
     loop-holds
     mul-slot
     array-copy-out-slot

@@ -23,10 +23,10 @@ abbrev gone : Marked
 gone = record { mark = M.Gone }
 
 abbrev Inv-loop : tie.InvT-loop
-Inv-loop index count items marks ops₀ inner₀ size₀ i₀ ops inner size i = Going index (take count items) marks ops inner size i
+Inv-loop count items marks index ops₀ inner₀ size₀ i₀ ops inner size i = Going index (take count items) marks ops inner size i
 
 abbrev μ-loop : tie.MeasureT-loop
-μ-loop index count items marks ops₀ inner₀ size₀ i₀ ops inner size i = i
+μ-loop count items marks index ops₀ inner₀ size₀ i₀ ops inner size i = i
 
 counted : (b : tie.Start Inv-loop μ-loop) → (length (take (b .args .count) (b .args .t1)) ≡ b .args .count) × (length (b .args .t2) ≡ 64)
 counted b =
@@ -77,7 +77,7 @@ array-copy-out-marked c = (inside (c .before)) .1
 
 tag-of-requires : tie.Need-tag-of-requires Inv-loop μ-loop
 tag-of-requires c κs =
-    let d = c .before .before in
+    let d = c .before .before .before in
     let n = counted (d .before .before) in
     let i = inside d in
     let j : d .before .loop .i - 1 < length (d .before .before .args .t2) = omega arith in
@@ -85,7 +85,7 @@ tag-of-requires c κs =
 
 plan-row-requires : tie.Need-plan-row-requires Inv-loop μ-loop
 plan-row-requires c κs =
-    let d = c .before .before .before in
+    let d = c .before .before .before .before in
     let n = counted (d .before .before) in
     let g = d .before .loop .inv in
     let x = g .bound in
@@ -94,14 +94,14 @@ plan-row-requires c κs =
     (fits d, omega arith)
 
 mul-ops : tie.Need-mul-ops Inv-loop μ-loop
-mul-ops c = let i = inside (c .before .before .before .before) in omega arith
+mul-ops c = let i = inside (c .before .before .before .before .before) in omega arith
 
 array-set-from-ops : tie.Need-array-set-from-ops Inv-loop μ-loop
-array-set-from-ops c = (inside (c .before .before .before .before)) .1
+array-set-from-ops c = (inside (c .before .before .before .before .before)) .1
 
 add-size : tie.Need-add-size Inv-loop μ-loop
 add-size c =
-    let d = c .before .before .before .before .before in
+    let d = c .before .before .before .before .before .before in
     let g = d .before .loop .inv in
     let x = g .bound in
     let z = g .few in
@@ -114,7 +114,7 @@ loop-less c = omega arith
 loop-again : tie.Need-loop-again Inv-loop μ-loop
 loop-again c =
     let k = c .before in
-    let d = k .before .before .before .before in
+    let d = k .before .before .before .before .before in
     let b = d .before .before in
     let e = k .plan-row .ensures in
     going-on (d .before .loop .inv) row gone (d .loop-test .taken) _

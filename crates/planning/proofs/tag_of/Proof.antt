@@ -22,8 +22,8 @@ cast-result c = search needs
 mul-result : tie.Need-mul-result
 mul-result c = search needs
 
-array-read-result : tie.Need-array-read-result
-array-read-result c = label-below _ (c .before .mark2 .given .1) (c .before .before .before .pre)
+element-copy-out-result : tie.Need-element-copy-out-result
+element-copy-out-result c = label-below _ (c .before .mark2 .given .1) (c .before .before .before .pre)
 
 returns : tie.Need-returns
 returns c = gone-tag _ (c .enum-told .given .1)
@@ -32,7 +32,7 @@ returns-2 : tie.Need-returns-2
 returns-2 c = number-tag _ _ (c .before .mark .given .1)
 
 returns-3 : tie.Need-returns-3
-returns-3 c = label-tag _ _ (c .before .mark2 .given .1)
+returns-3 c = label-tag _ _ (c .before .before .mark2 .given .1)
 
 pub tag-of-spec : {M : Type 1} → statement M
 tag-of-spec =
@@ -43,7 +43,7 @@ tag-of-spec =
     enum-known-mark-2
     cast-result
     mul-result
-    array-read-result
+    element-copy-out-result
     returns
     returns-2
     returns-3)
