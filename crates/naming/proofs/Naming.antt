@@ -19,13 +19,13 @@ use Rattle.pack.specs.Fixed.{itemCap}
 use Rattle.pack.specs.Said.{number}
 use Rattle.pack.specs.Reading.{padded}
 use Rattle.pack.specs.Rows.{NameFits, ItemFits}
+use Rattle.pack.proofs.Padded.{set-padded}
 use Rattle.kept.specs.Sheet.{Sheet}
 use Rattle.kept.specs.Kept.{keeps}
 use Rattle.naming.specs.declared.Mark.{Mark}
 use Rattle.naming.specs.declared.Mark.the-variants as M
 use Rattle.naming.specs.Marks.{markName, markItem, PlacesFit}
 use Rattle.naming.specs.Given.{clearFrom, clearAt, given, byIndex, EachBelow}
-use Rattle.naming.proofs.Padded.{set-padded}
 
 module _ (flags : List Bool) (sheet : Sheet) {x : Name} where
   pub label-stays : (i : ℕ) → x ≡ N.Label i → getD flags i false ≡ true → M.Label i ≡ markName flags sheet x
@@ -114,7 +114,7 @@ giving-step {taken} {count} {next} {k} {tags} g n m h b e =
     let z = g .size in
     record {
       done = g .done ++ ((64 + n) ∷ []);
-      full = ap (λ (l : List ℕ). set l k (64 + n)) (g .full) ∙ set-padded itemCap 0 (g .done) k (64 + n) (omega arith) (omega arith);
+      full = ap (λ (l : List ℕ). set l k (64 + n)) (g .full) ∙ set-padded itemCap 0 (g .done) k (omega arith) (64 + n) (omega arith);
       size = omega (arith, length-append (g .done) ((64 + n) ∷ []));
       most = (omega arith, omega arith);
       whole =

@@ -19,7 +19,8 @@ use Rattle.naming.specs.declared.Mark.{Mark}
 use Rattle.naming.specs.declared.Mark.the-variants as M
 use Rattle.naming.specs.declared.Marked.{Marked}
 use Rattle.naming.specs.Marks.{numbersOf, labelsOf, marked, Noted}
-use Rattle.naming.proofs.Padded.{set-padded, map-next}
+use Rattle.pack.proofs.Padded.{set-padded}
+use Rattle.naming.proofs.Padded.{map-next}
 use Rattle.naming.proofs.Growing.{among-last, numbers-number, numbers-gone, numbers-label, labels-gone, labels-number, labels-seen, labels-new, marks-few}
 
 outside : (t k : ℕ) → (t < 64) ⊎ (128 ≤ t) → k < 64 → t ≡ 64 + k → ⊥
@@ -54,7 +55,7 @@ module _ {ms : List Mark} {marks : List Marked} {order : List ℕ} {labels : ℕ
   marks-more =
       let l : length (map marked ms) ≡ length ms = length-map ms marked in
       ap (λ (x : List Marked). set x at (marked r)) (n .noted .marks)
-      ∙ set-padded itemCap (marked M.Gone) (map marked ms) at (marked r) (omega arith) (omega arith)
+      ∙ set-padded itemCap (marked M.Gone) (map marked ms) at (omega arith) (marked r) (omega arith)
       ∙ ap (padded itemCap (marked M.Gone)) (sym (map-append marked ms (r ∷ [])))
 
   -- a mark that adds no label
@@ -127,7 +128,7 @@ module _ {ms : List Mark} {marks : List Marked} {order : List ℕ} {labels : ℕ
         noted = record {
           marks = marks-more;
           order =
-              ap (λ (x : List ℕ). set x labels k) (n .noted .order) ∙ set-padded itemCap 0 old labels k nl (omega arith) ∙ ap (padded itemCap 0) (sym a);
+              ap (λ (x : List ℕ). set x labels k) (n .noted .order) ∙ set-padded itemCap 0 old labels (sym nl) k (omega arith) ∙ ap (padded itemCap 0) (sym a);
           labels = omega (arith, ap length a, length-append old (k ∷ []));
           taken = λ j g. n .noted .taken j g ∙ ap (among (64 + j)) (sym b);
         };

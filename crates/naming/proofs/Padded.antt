@@ -1,25 +1,14 @@
--- Lists in arrays: one more element, and what a loop that fills an array keeps.
+-- What a loop that fills an array keeps.
 -- Assumes nothing.
 use mathlib.Core.Path.{_≡_, sym, ap, _∙_}
-use mathlib.Core.List.{List, [], _∷_, _++_, append-assoc, map, map-append}
-use Prim.Native.Nat.{ℕ, suc, _+_, _-_, _<_, _≤_}
+use mathlib.Core.List.{List, [], _∷_, _++_, map, map-append}
+use Prim.Native.Nat.{ℕ, _+_, _<_, _≤_}
 use native.Mathlib.Omega.{arith}
 use native.Mathlib.Numerals.{add-one}
-use lib.ListN.{length, take, getD, set, replicate, length-append, length-map}
-use lib.Seq.{set-at, take-suc, take-all, length-take-le}
+use lib.ListN.{length, take, getD, set, length-map}
+use lib.Seq.{take-suc, take-all, length-take-le}
 use Rattle.pack.specs.Reading.{padded}
-
-pub set-padded : {A : Type 0} (n : ℕ) (d : A) (xs : List A) (at : ℕ) (y : A) → at ≡ length xs → length xs < n
-    → set (padded n d xs) at y ≡ padded n d (xs ++ (y ∷ []))
-set-padded {A} n d xs at y e h =
-    let k = n - length xs - 1 in
-    let l : length (xs ++ (y ∷ [])) ≡ length xs + 1 = length-append xs (y ∷ []) in
-    let p : n - length xs ≡ suc k = omega arith in
-    let q : n - length (xs ++ (y ∷ [])) ≡ k = omega arith in
-    ap (λ (m : ℕ). set (xs ++ replicate m d) at y) p
-    ∙ set-at xs d (replicate k d) y at (sym e)
-    ∙ sym (append-assoc xs (y ∷ []) (replicate k d))
-    ∙ ap (λ (m : ℕ). (xs ++ (y ∷ [])) ++ replicate m d) (sym q)
+use Rattle.pack.proofs.Padded.{set-padded}
 
 -- the elements up to and including the next
 pub map-next : {A B : Type 0} (f : A → B) (xs : List A) (i : ℕ) (d : A) → i < length xs
@@ -38,7 +27,7 @@ filling-step {A} {B} {f} {n} {d} {xs} {ys} {i} z y g h m e =
     record {
       most = omega arith;
       full =
-          ap (λ (x : List B). set x i y) (g .full) ∙ set-padded n d (map f (take i xs)) i y (sym l) (omega arith)
+          ap (λ (x : List B). set x i y) (g .full) ∙ set-padded n d (map f (take i xs)) i l y (omega arith)
           ∙ ap (padded n d) (ap (λ (x : B). map f (take i xs) ++ (x ∷ [])) e ∙ sym (map-next f xs i z h));
     }
 
