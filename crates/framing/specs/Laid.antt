@@ -12,8 +12,7 @@ use Rattle.crc.specs.Crc.{crcOf}
 use Rattle.pack.specs.Fixed.{key}
 use Rattle.layout.specs.Layout.{Entry, configBytes}
 use Rattle.kept.specs.Written.{asConfig}
-use Rattle.writing.specs.declared.OpSlot.{OpSlot}
-use Rattle.writing.specs.Ops.{opsBytes, OpsFit}
+use Rattle.writing.specs.Ops.{OpSlot, opsBytes, OpsFit}
 
 -- the mappings that are written: a new tag, and the label that stands at the place of an old mapping of the pack s
 unfoldable pub entriesAt : List ℕ → List ℕ → List ℕ → List ℕ → List Entry

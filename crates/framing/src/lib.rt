@@ -8,8 +8,8 @@ ghost use Rattle.numbers.specs.Tags.{tagBytes};
 ghost use Rattle.numbers.specs.Lengths.{lengthBytes};
 ghost use Rattle.pack.specs.Fixed.{key};
 ghost use Rattle.layout.specs.Layout.{entriesBytes};
+ghost use Rattle.writing.specs.Ops.{opsIn};
 ghost use Rattle.framing.specs.Laid.{entriesAt, configAt, configSize, contentAt, framed, sealed, Packed, EntriesFit, Packs};
-use writing::OpSlot;
 
 const KEY: [u8; 16] = [
     0x06,
@@ -134,15 +134,16 @@ pub fn write_pack(
     order: [u32; 64],
     tags: [u32; 64],
     count: usize,
-    ops: [OpSlot; 64],
+    ops: &[u32; 256],
+    writes: usize,
     size: usize,
     out: &mut [u8],
 ) -> usize
-    requires { ⌜ Packs (now p) offset places (take count order) tags ops size (length (now out)) × (count ≤ 64) ⌝ }
-    ensures { λ r. ⌜ Packed (now (out .entry)) (sealed (framed (contentAt (now (p .entry)) offset places (take count order) tags ops))) r (now (out .exit)) ⌝ }
+    requires { ⌜ Packs (now p) offset places (take count order) tags (take writes (opsIn (now ops))) size (length (now out)) × (count ≤ 64) × (writes ≤ 64) ⌝ }
+    ensures { λ r. ⌜ Packed (now (out .entry)) (sealed (framed (contentAt (now (p .entry)) offset places (take count order) tags (take writes (opsIn (now (ops .entry))))))) r (now (out .exit)) ⌝ }
 {
     let a = write_start(out, size);
     let b = write_config(p, offset, places, order, tags, count, out, a);
-    let c = writing::write_ops(p, ops, out, b);
+    let c = writing::write_ops(p, ops, writes, out, b);
     write_close(out, c)
 }

@@ -1,4 +1,5 @@
 pub mod Padded
+pub mod Cells
 pub mod Growing
 pub mod Noting
 pub mod Naming

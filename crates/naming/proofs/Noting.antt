@@ -17,8 +17,7 @@ use Rattle.pack.specs.Reading.{padded}
 use Rattle.pack.specs.declared.Slot.{Slot}
 use Rattle.naming.specs.declared.Mark.{Mark}
 use Rattle.naming.specs.declared.Mark.the-variants as M
-use Rattle.naming.specs.declared.Marked.{Marked}
-use Rattle.naming.specs.Marks.{numbersOf, labelsOf, marked, Noted}
+use Rattle.naming.specs.Marks.{numbersOf, labelsOf, Marked, marked, Noted}
 use Rattle.pack.proofs.Padded.{set-padded}
 use Rattle.naming.proofs.Padded.{map-next}
 use Rattle.naming.proofs.Growing.{among-last, numbers-number, numbers-gone, numbers-label, labels-gone, labels-number, labels-seen, labels-new, marks-few}
@@ -146,9 +145,9 @@ pub record Noting (f : Slot → Mark) (xs : List Slot) (marks : List Marked) (or
   pub most : i ≤ length xs
   pub notes : Notes (map f (take i xs)) marks order labels taken seen
 
-pub noting-begins : (f : Slot → Mark) (xs : List Slot)
-    → Noting f xs (replicate 64 (marked M.Gone)) (replicate 64 0) 0 (replicate 64 false) (replicate 32 false) 0
-noting-begins f xs = record { most = omega arith; notes = notes-begin }
+pub noting-begins : (f : Slot → Mark) (xs : List Slot) {marks : List Marked} {order : List ℕ} {taken : List Bool} → marks ≡ replicate 64 (marked M.Gone)
+    → order ≡ replicate 64 0 → taken ≡ replicate 64 false → Noting f xs marks order 0 taken (replicate 32 false) 0
+noting-begins f xs m o t = rw (m, o, t) (record { most = omega arith; notes = notes-begin })
 
 module _ {f : Slot → Mark} {xs : List Slot} {marks : List Marked} {order : List ℕ} {labels i : ℕ} {taken seen : List Bool} where
   pub noting-here : Noting f xs marks order labels taken seen i → i ≡ length (map f (take i xs))
@@ -157,12 +156,13 @@ module _ {f : Slot → Mark} {xs : List Slot} {marks : List Marked} {order : Lis
   pub noting-few : Noting f xs marks order labels taken seen i → labels ≤ i
   noting-few g = let m = marks-few [] (map f (take i xs)) in let h = noting-here g in let l = g .notes .noted .labels in omega arith
 
-  pub noting-step : (d : Slot) (r : Mark) → i < length xs → r ≡ f (getD xs i d)
-      → Notes (map f (take i xs) ++ (r ∷ [])) marks order labels taken seen → Noting f xs marks order labels taken seen (i + 1)
-  noting-step d r h e n = record {
+  pub noting-step : {new : List Marked} (d : Slot) (r : Mark) → i < length xs → r ≡ f (getD xs i d) → marks ≡ new
+      → Notes (map f (take i xs) ++ (r ∷ [])) new order labels taken seen → Noting f xs marks order labels taken seen (i + 1)
+  noting-step {new} d r h e w n = record {
     most = omega arith;
     notes =
-        subst (λ (l : List Mark). Notes l marks order labels taken seen) (ap (λ (x : Mark). map f (take i xs) ++ (x ∷ [])) e ∙ sym (map-next f xs i d h)) n;
+        subst (λ (l : List Mark). Notes l marks order labels taken seen) (ap (λ (x : Mark). map f (take i xs) ++ (x ∷ [])) e ∙ sym (map-next f xs i d h))
+        (subst (λ (x : List Marked). Notes (map f (take i xs) ++ (r ∷ [])) x order labels taken seen) (sym w) n);
   }
 
   pub noting-ends : Noting f xs marks order labels taken seen i → length xs ≤ i

@@ -4,8 +4,10 @@ use mathlib.Core.Path.{_≡_}
 use mathlib.Core.List.{List, [], _∷_, map}
 use mathlib.Core.Bool.{Bool, false, cond}
 use Prim.Native.Nat.{ℕ, _+_, _<_, _≤_}
+use lib.Dec.{eqb}
 use lib.ListN.{length, take, drop, getD}
 use Rattle.lists.specs.Same.{among}
+use Rattle.lists.specs.Cells.{cells}
 use Rattle.pack.specs.declared.Name.{Name}
 use Rattle.pack.specs.declared.Name.the-variants as N
 use Rattle.pack.specs.declared.Item.{Item}
@@ -18,8 +20,6 @@ use Rattle.kept.specs.Sheet.{Sheet}
 use Rattle.kept.specs.Kept.{keeps}
 use Rattle.naming.specs.declared.Mark.{Mark}
 use Rattle.naming.specs.declared.Mark.the-variants as M
-use Rattle.naming.specs.declared.Marked.{Marked}
-use Rattle.naming.specs.declared.Names.{Names}
 
 -- for each label of the pack s whether the sheet keeps it; `places` says where they stand
 abbrev pub flagsOf : Sheet → List ℕ → List ℕ → List Bool
@@ -53,8 +53,35 @@ labelsOf seen (M.Gone ∷ r) = labelsOf seen r
 labelsOf seen (M.Number t ∷ r) = labelsOf seen r
 labelsOf seen (M.Label i ∷ r) = cond (among i seen) (labelsOf seen r) (i ∷ labelsOf (i ∷ seen) r)
 
+-- an element of an array of marks
+pub record Marked : Type 0 where
+  pub mark : Mark
+
 abbrev pub marked : Mark → Marked
 marked m = record { mark = m }
+
+-- the numbers of a mark, two of them, and back: the mark whose numbers stand at `at`
+unfoldable pub markNumbers : Mark → List ℕ
+markNumbers M.Gone = 0 ∷ 0 ∷ []
+markNumbers (M.Number t) = 1 ∷ t ∷ []
+markNumbers (M.Label i) = 2 ∷ i ∷ []
+
+unfoldable pub markAt : List ℕ → ℕ → Mark
+markAt s at = cond (eqb (getD s at 0) 1) (M.Number (getD s (at + 1) 0)) (cond (eqb (getD s at 0) 2) (M.Label (getD s (at + 1) 0)) M.Gone)
+
+-- the marks of an array of numbers
+abbrev pub markedAt : List ℕ → ℕ → Marked
+markedAt s at = marked (markAt s at)
+
+abbrev pub marksIn : List ℕ → List Marked
+marksIn s = cells markedAt 2 itemCap s
+
+-- the marks of the rows, the kept labels in order of first appearance and how many they are, and which of the numbers 64 to 127 are kept
+pub record Names : Type 0 where
+  pub marks : List Marked
+  pub order : List ℕ
+  pub labels : ℕ
+  pub taken : List Bool
 
 -- what is noted of the marks: they themselves, the labels in order, and which numbers from 64 to 127 are taken
 pub record Noted (ms : List Mark) (r : Names) : Type 0 where

@@ -4,13 +4,17 @@ use mathlib.Core.Path.{_≡_, refl, sym, ap, ap₂, _∙_}
 use mathlib.Core.List.{List, [], _∷_, _++_, append-assoc}
 use Prim.Native.Nat.{ℕ, zero, suc, _+_, _-_, _*_, _<_, _≤_}
 use native.Mathlib.Omega.{arith}
-use lib.ListN.{length, drop, getD, set, replicate, length-replicate, replicate-append-replicate, drop-of-length-le}
-use lib.Seq.{drop-cons, set-at}
+use lib.ListN.{length, take, drop, getD, set, replicate, length-replicate, replicate-append-replicate, drop-of-length-le}
+use lib.Seq.{drop-cons, set-at, take-at}
 use Rattle.pack.specs.declared.Slot.{Slot}
-use Rattle.naming.specs.declared.Marked.{Marked}
-use Rattle.writing.specs.declared.OpSlot.{OpSlot}
+use Rattle.naming.specs.Marks.{Marked}
+use Rattle.writing.specs.declared.Op.the-variants.{Skip}
+use Rattle.writing.specs.Ops.{OpSlot}
 use Rattle.planning.specs.declared.Step.{Step}
-use Rattle.planning.specs.Planned.{tagOf, stepOf, Planned, joined, planned, skip, Plans, ItemSmall, RowsSmall, MarkFits, MarksFit}
+use Rattle.planning.specs.Planned.{tagOf, stepOf, Planned, joined, planned, Plans, ItemSmall, RowsSmall, MarkFits, MarksFit}
+
+abbrev pub skip : OpSlot
+skip = record { op = Skip }
 
 set-last : (s x : OpSlot) (xs : List OpSlot) (i : ℕ) → 0 < i → set (replicate i s ++ xs) (i - 1) x ≡ replicate (i - 1) s ++ (x ∷ xs)
 set-last s x xs i h =
@@ -66,8 +70,8 @@ planned-count index (x ∷ xs) [] h = absurd (let z : suc (length xs) ≤ 0 = h 
 planned-count index (x ∷ xs) (m ∷ ms) h = ap suc (planned-count index xs ms (let z : suc (length xs) ≤ suc (length ms) = h in omega arith))
 
 module _ {index : List ℕ} {xs : List Slot} {ms : List Marked} {ops : List OpSlot} {inner size i : ℕ} (g : Going index xs ms ops inner size i) where
-  pub going-ends : i ≤ 0 → Plans index xs ms (record { ops = ops; size = size })
-  going-ends h =
+  pub going-ends : (count : ℕ) → count ≡ length xs → i ≤ 0 → Plans index xs ms (record { ops = take count ops; size = size })
+  going-ends count c h =
       let z : i ≡ 0 = omega arith in
       let f = g .few in
       let l = g .long in
@@ -75,17 +79,17 @@ module _ {index : List ℕ} {xs : List Slot} {ms : List Marked} {ops : List OpSl
       let n = planned-count index xs ms (omega arith) in
       record {
         ops =
-            g .full ∙ ap (λ (k : ℕ). replicate k skip ++ ((planned index (drop k xs) (drop k ms)) .ops ++ replicate (64 - length xs) skip)) z
-            ∙ ap (λ (k : ℕ). (planned index xs ms) .ops ++ replicate (64 - k) skip) (sym n);
+            ap (take count) (g .full ∙ ap (λ (k : ℕ). replicate k skip ++ ((planned index (drop k xs) (drop k ms)) .ops ++ replicate (64 - length xs) skip)) z)
+            ∙ take-at ((planned index xs ms) .ops) (replicate (64 - length xs) skip) count (n ∙ sym c);
         size = g .tot ∙ ap (λ (k : ℕ). (planned index (drop k xs) (drop k ms)) .total) z;
         small = omega arith;
       }
 
   module _ (d : Slot) (e : Marked) (h : 0 < i) where
-    pub going-on : (r : Step) → (r ≡ stepOf ((getD xs (i - 1) d) .item) (tagOf index ((getD ms (i - 1) e) .mark)) inner) × (r .size ≤ 40000) × (r .inner ≤ inner + r .size)
-        → Going index xs ms (set ops (i - 1) (record { op = r .op })) (r .inner) (size + r .size) (i - 1)
+    pub going-on : (r : Step) (now : List OpSlot) → now ≡ set ops (i - 1) (record { op = r .op }) → (r ≡ stepOf ((getD xs (i - 1) d) .item) (tagOf index ((getD ms (i - 1) e) .mark)) inner) × (r .size ≤ 40000) × (r .inner ≤ inner + r .size)
+        → Going index xs ms now (r .inner) (size + r .size) (i - 1)
     unfolding planned
-    going-on r q =
+    going-on r now is q =
         let j = i - 1 in
         let s : suc j ≡ i = omega arith in
         let m = g .most in
@@ -103,7 +107,7 @@ module _ {index : List ℕ} {xs : List Slot} {ms : List Marked} {ops : List OpSl
           few = f;
           long = l;
           full =
-              ap (λ (y : List OpSlot). set y j (record { op = r .op })) (g .full)
+              is ∙ ap (λ (y : List OpSlot). set y j (record { op = r .op })) (g .full)
               ∙ set-last skip (record { op = r .op }) tail i h
               ∙ ap (λ (x : Planned). replicate j skip ++ (x .ops ++ replicate (64 - length xs) skip)) (sym p);
           ins = sym (ap (λ (x : Planned). x .inner) p);

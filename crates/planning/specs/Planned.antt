@@ -11,15 +11,13 @@ use Rattle.numbers.specs.Lengths.{lengthBytes}
 use Rattle.pack.specs.declared.Item.{Item}
 use Rattle.pack.specs.declared.Item.the-variants as I
 use Rattle.pack.specs.declared.Slot.{Slot}
-use Rattle.pack.specs.Fixed.{packCap, itemCap, mappingCap}
-use Rattle.pack.specs.Reading.{padded}
+use Rattle.pack.specs.Fixed.{packCap, mappingCap}
 use Rattle.naming.specs.declared.Mark.{Mark}
 use Rattle.naming.specs.declared.Mark.the-variants as M
-use Rattle.naming.specs.declared.Marked.{Marked}
+use Rattle.naming.specs.Marks.{Marked}
 use Rattle.writing.specs.declared.Op.the-variants.{Skip, Put, Open}
-use Rattle.writing.specs.declared.OpSlot.{OpSlot}
+use Rattle.writing.specs.Ops.{OpSlot}
 use Rattle.planning.specs.declared.Step.{Step}
-use Rattle.planning.specs.declared.Plan.{Plan}
 
 -- the tag that a marked row is written with, 0 if it goes; `index` has the new tags of labels
 abbrev pub tagOf : List ℕ → Mark → ℕ
@@ -59,12 +57,14 @@ planned index [] ms = record { inner = 0; total = 0; ops = [] }
 planned index (x ∷ xs) [] = record { inner = 0; total = 0; ops = [] }
 planned index (x ∷ xs) (m ∷ ms) = joined (stepOf (x .item) (tagOf index (m .mark)) ((planned index xs ms) .inner)) (planned index xs ms)
 
-abbrev pub skip : OpSlot
-skip = record { op = Skip }
+-- the writes in order, and how many bytes they make
+pub record Plan : Type 0 where
+  pub ops : List OpSlot
+  pub size : ℕ
 
 -- what the plan of these rows is
 pub record Plans (index : List ℕ) (xs : List Slot) (ms : List Marked) (r : Plan) : Type 0 where
-  pub ops : r .ops ≡ padded itemCap skip ((planned index xs ms) .ops)
+  pub ops : r .ops ≡ (planned index xs ms) .ops
   pub size : r .size ≡ (planned index xs ms) .total
   pub small : r .size < 3000000
 

@@ -1,28 +1,22 @@
 // The plan pass: from marked rows, the writes and their size.
 ghost use mathlib.Core.Path.{_≡_};
 ghost use Prim.Native.Nat.{_+_, _≤_};
-ghost use lib.ListN.{take};
+ghost use lib.ListN.{take, replicate};
+ghost use Rattle.slots.specs.Slots.{slotsIn};
+ghost use Rattle.naming.specs.Marks.{marksIn};
+ghost use Rattle.writing.specs.Ops.{opsIn};
 ghost use Rattle.planning.specs.Planned.{tagOf, sized, stepOf, Plans, ItemSmall, RowsSmall, MarkFits, MarksFit};
 ghost use Rattle.pack.specs.declared.Item.the-variants as I;
 use naming::Mark;
-use naming::Marked;
 use pack::Head;
 use pack::Item;
 use pack::Payload;
-use pack::Slot;
 use writing::Op;
-use writing::OpSlot;
 
 // What a row adds: its write, the bytes inside a Sync that is still to come, and its size.
 pub struct Step {
     pub op: Op,
     pub inner: u32,
-    pub size: u32,
-}
-
-// The writes in order, and how many bytes they make.
-pub struct Plan {
-    pub ops: [OpSlot; 64],
     pub size: u32,
 }
 
@@ -112,28 +106,31 @@ fn plan_row(item: Item, tag: u32, inner: u32) -> Step
     }
 }
 
-// Plans the first `count` rows.
-pub fn plan_rows(items: [Slot; 64], marks: [Marked; 64], index: [u32; 32], count: usize) -> Plan
-    requires { ⌜ (count ≤ 64) × RowsSmall (take count items) × MarksFit marks ⌝ }
-    ensures { λ r. ⌜ Plans index (take count items) marks r ⌝ }
+// Plans the first `count` rows: fills `ops`, which comes empty, and answers how many bytes the writes make.
+pub fn plan_rows(
+    slots: &[u32; 512],
+    marks: &[u32; 128],
+    index: &[u32; 32],
+    count: usize,
+    ops: &mut [u32; 256],
+) -> u32
+    requires { ⌜ (count ≤ 64) × RowsSmall (take count (slotsIn (now slots))) × MarksFit (marksIn (now marks)) × (now ops ≡ replicate 256 0) ⌝ }
+    ensures { λ r. ⌜ Plans (now (index .entry)) (take count (slotsIn (now (slots .entry)))) (marksIn (now (marks .entry)))
+        (record { ops = take count (opsIn (now (ops .exit))); size = r }) ⌝ }
 {
-    let none = OpSlot { op: Op::Skip };
-    let mut ops = [none; 64];
     let mut inner: u32 = 0;
     let mut size: u32 = 0;
     let mut i = count;
     while i > 0 {
         i -= 1;
-        let slot = items[i];
-        let item = slot.item;
-        let marked = marks[i];
-        let mark = marked.mark;
-        let tag = tag_of(mark, &index);
+        let item = slots::item(slots, i);
+        let mark = naming::mark_in(marks, i);
+        let tag = tag_of(mark, index);
         let step = plan_row(item, tag, inner);
         let op = step.op;
-        ops[i] = OpSlot { op };
+        writing::put_op(&mut *ops, i, op);
         inner = step.inner;
         size += step.size;
     }
-    Plan { ops, size }
+    size
 }

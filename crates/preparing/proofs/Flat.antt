@@ -31,8 +31,7 @@ use Rattle.kept.specs.Kept.{keeps, keptPayloads, keptSync, keptItems}
 use Rattle.kept.specs.Written.{tagFor, asElement, asChunk}
 use Rattle.writing.specs.declared.Op.{Op}
 use Rattle.writing.specs.declared.Op.the-variants.{Skip, Put, Open}
-use Rattle.writing.specs.declared.OpSlot.{OpSlot}
-use Rattle.writing.specs.Ops.{opBytes, opsBytes, OpFits, OpsFit}
+use Rattle.writing.specs.Ops.{OpSlot, opBytes, opsBytes, OpFits, OpsFit}
 use Rattle.writing.proofs.Ops.{value-length, put-size, open-size}
 use Rattle.planning.specs.Planned.{sized, stepOf, Planned, joined}
 

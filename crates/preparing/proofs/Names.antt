@@ -30,8 +30,7 @@ use Rattle.kept.proofs.Listed.{never, listed-here, listed-more}
 use Rattle.kept.proofs.Labels.{LabelsApart}
 use Rattle.naming.specs.declared.Mark.{Mark}
 use Rattle.naming.specs.declared.Mark.the-variants as M
-use Rattle.naming.specs.declared.Marked.{Marked}
-use Rattle.naming.specs.Marks.{markName, markItem, marksOf, numbersOf, labelsOf, marked}
+use Rattle.naming.specs.Marks.{Marked, markName, markItem, marksOf, numbersOf, labelsOf, marked}
 use Rattle.planning.specs.Planned.{tagOf, stepOf, Planned, joined, planned}
 use Rattle.preparing.proofs.Flat.{tagItem, planBy, newTag}
 

@@ -28,16 +28,13 @@ use Rattle.kept.proofs.Free.{free-range}
 use Rattle.kept.proofs.Demand3.{kept-few}
 use Rattle.naming.specs.declared.Mark.{Mark}
 use Rattle.naming.specs.declared.Mark.the-variants as M
-use Rattle.naming.specs.declared.Names.{Names}
-use Rattle.naming.specs.Marks.{flagsOf, markItem, marksOf, numbersOf, labelsOf, marked, Noted}
+use Rattle.naming.specs.Marks.{Names, flagsOf, markItem, marksOf, numbersOf, labelsOf, marked, Noted}
 use Rattle.naming.specs.Given.{given, byIndex, EachBelow}
 use Rattle.naming.proofs.Growing.{marks-few}
-use Rattle.writing.specs.declared.OpSlot.{OpSlot}
-use Rattle.writing.specs.Ops.{opBytes, opsBytes, OpsFit}
+use Rattle.writing.specs.Ops.{opsBytes, OpsFit}
 use Rattle.framing.specs.Laid.{entriesAt, configAt, configSize, contentAt, EntriesFit}
 use Rattle.framing.proofs.Entries.{config-length}
-use Rattle.planning.specs.declared.Plan.{Plan}
-use Rattle.planning.specs.Planned.{Planned, planned, skip, Plans, MarksFit}
+use Rattle.planning.specs.Planned.{Plan, Planned, planned, Plans, MarksFit}
 use Rattle.preparing.specs.Ready.{Ready}
 use Rattle.preparing.proofs.Flat.{newTag, PartLies, planBy, flat-items, rows-lie, total-size, ops-fit}
 use Rattle.preparing.proofs.Names.{at, MarkBelow, PartBelow, saying, saying-numbers, saying-labels, order-below, marks-say, marks-below, parts-planned}
@@ -49,18 +46,6 @@ use Rattle.preparing.proofs.Tagged.{parts-lie}
 
 padded-length : {A : Type 0} (n : ℕ) (d : A) (xs : List A) → length xs ≤ n → length (padded n d xs) ≡ n
 padded-length n d xs h = let a = length-append xs (replicate (n - length xs) d) in let b = length-replicate (n - length xs) d in omega arith
-
--- writes of nothing
-skips-bytes : (s : List ℕ) (xs : List OpSlot) (n : ℕ) → opsBytes s (xs ++ replicate n skip) ≡ opsBytes s xs
-unfolding opsBytes opBytes
-skips-bytes s [] zero = refl
-skips-bytes s [] (suc n) = skips-bytes s [] n
-skips-bytes s (x ∷ xs) n = ap (λ (l : List ℕ). opBytes s (x .op) ++ l) (skips-bytes s xs n)
-
-skips-fit : (s : List ℕ) (xs : List OpSlot) (n : ℕ) → OpsFit s xs → OpsFit s (xs ++ replicate n skip)
-skips-fit s [] zero h = tt
-skips-fit s [] (suc n) h = (tt, skips-fit s [] n tt)
-skips-fit s (x ∷ xs) n h = (h .0, skips-fit s xs n (h .1))
 
 pub marks-fit : (k : ℕ) (ms : List Mark) (n : ℕ) → k ≤ 32 → Each (MarkBelow k) ms → MarksFit (map marked ms ++ replicate n (marked M.Gone))
 marks-fit k [] zero h g = tt
@@ -211,7 +196,6 @@ module _ (s : List ℕ) (bytes : Bytes s) (r : Read) (h : reading s ≡ fine r) 
     writes-are : opsBytes s (pl .ops) ≡ chunksBytes (map (asChunk mappingsOf) (keptItems sh (map (meantPart s (labels s r a)) (r .body .parts))))
     writes-are =
         ap (opsBytes s) (plans .ops)
-        ∙ skips-bytes s ((planned index rows (nm .marks)) .ops) (itemCap - length ((planned index rows (nm .marks)) .ops))
         ∙ ap (λ (p : Planned). opsBytes s (p .ops)) plan-is
         ∙ flat-items s (labels s r a) sh mappingsOf (r .body .parts) lie
 
@@ -219,18 +203,15 @@ module _ (s : List ℕ) (bytes : Bytes s) (r : Read) (h : reading s ≡ fine r) 
     size-is =
         plans .size ∙ ap (λ (p : Planned). p .total) plan-is
         ∙ total-size s (labels s r a) sh mappingsOf rows (rows-lie s (labels s r a) sh mappingsOf (r .body .parts) lie)
-        ∙ ap length (sym (ap (opsBytes s) (plans .ops)
-        ∙ skips-bytes s ((planned index rows (nm .marks)) .ops) (itemCap - length ((planned index rows (nm .marks)) .ops))
-        ∙ ap (λ (p : Planned). opsBytes s (p .ops)) plan-is))
+        ∙ ap length (sym (ap (opsBytes s) (plans .ops) ∙ ap (λ (p : Planned). opsBytes s (p .ops)) plan-is))
 
     writes-fit : OpsFit s (pl .ops)
     writes-fit =
-        let p = planned index rows (nm .marks) in
         let t : (planBy (newTag s (labels s r a) sh mappingsOf) rows) .total < 3000000 =
         let x = plans .small in let y = plans .size ∙ ap (λ (q : Planned). q .total) plan-is in omega arith in
-        rw (plans .ops) (skips-fit s (p .ops) (itemCap - length (p .ops))
+        rw (plans .ops)
         (subst (λ (q : Planned). OpsFit s (q .ops)) (sym plan-is)
-        (ops-fit s (labels s r a) sh mappingsOf rows (rows-lie s (labels s r a) sh mappingsOf (r .body .parts) lie) t)))
+        (ops-fit s (labels s r a) sh mappingsOf rows (rows-lie s (labels s r a) sh mappingsOf (r .body .parts) lie) t))
 
     content-is : contentAt s (r .offset) (places s r a) order tags (pl .ops) ≡ contentOf what
     unfolding kept meant

@@ -1,49 +1,59 @@
 // What a sheet keeps of a pack, prepared for writing.
 ghost use mathlib.Core.Path.{_≡_};
+ghost use lib.ListN.{take, replicate};
 ghost use Rattle.refusals.specs.Outcomes.{fine};
 ghost use Rattle.pack.specs.Reading.{Read, reading};
 ghost use Rattle.pack.specs.Meaning.{meant};
+ghost use Rattle.slots.specs.Slots.{slotsIn};
 ghost use Rattle.kept.specs.Kept.{kept};
 ghost use Rattle.sheet.specs.Judged.{asks, Holds};
+ghost use Rattle.writing.specs.Ops.{opsIn};
 ghost use Rattle.preparing.specs.Ready.{Accepts, Ready};
-use pack::Reading;
 use sheet::Asked;
-use writing::OpSlot;
 
-// What is to be written: the writes, the mappings with their new tags, and the size of the pack's value.
-pub struct Prepared {
-    pub ops: [OpSlot; 64],
-    pub order: [u32; 64],
-    pub tags: [u32; 64],
+// How many labels are mapped, and the size of the pack's value.
+pub struct Sizes {
     pub labels: usize,
     pub size: usize,
 }
 
-// Keeps, names and plans: one forward pass over the rows and one backward.
-pub fn prepare(sheet: &[u8], asked: Asked, p: &[u8], shows: Reading, count: usize) -> Prepared
-    requires { ⌜ Accepts (now p) shows count × Holds (now sheet) asked ⌝ }
+// Keeps, names and plans: one forward pass over the slots and one backward. The labels that are mapped, by first appearance, their new tags and
+// the writes go into the last three arrays, which come empty.
+pub fn prepare(
+    sheet: &[u8],
+    asked: Asked,
+    p: &[u8],
+    slots: &[u32; 512],
+    places: &[u32; 32],
+    mapped: usize,
+    offset: u16,
+    count: usize,
+    order: &mut [u32; 64],
+    tags: &mut [u32; 64],
+    ops: &mut [u32; 256],
+) -> Sizes
+    requires { ⌜ Accepts (now p) offset mapped (now places) (slotsIn (now slots)) count × Holds (now sheet) asked
+        × (now order ≡ replicate 64 0) × (now tags ≡ replicate 64 0) × (now ops ≡ replicate 256 0) ⌝ }
     ensures { λ r. ⌜ ((q : Read) → reading (now (p .entry)) ≡ fine q
-        → Ready (kept (asks (now (sheet .entry)) asked) (meant (now (p .entry)) q)) (now (p .entry)) (shows .offset) (shows .labels) r) ⌝ }
+        → Ready (kept (asks (now (sheet .entry)) asked) (meant (now (p .entry)) q)) (now (p .entry)) offset (now (places .entry))
+        (record { ops = take count (opsIn (now (ops .exit))); order = now (order .exit); tags = now (tags .exit); labels = r .labels; size = r .size })) ⌝ }
 {
-    let items = shows.items;
-    let places = shows.labels;
-    let mapped = shows.mapped as usize;
     let flags = naming::flags(sheet, asked, p, places, mapped);
-    let names = naming::note(sheet, asked, flags, items, count);
-    let order = names.order;
-    let marks = names.marks;
-    let taken = names.taken;
-    let labels = names.labels;
-    let tags = naming::assign(taken, labels);
+    let mut marks = [0u32; 128];
+    let mut taken = [false; 64];
+    let labels = naming::note(
+        sheet,
+        asked,
+        &flags,
+        slots,
+        count,
+        &mut marks,
+        &mut *order,
+        &mut taken,
+    );
+    naming::assign(&taken, labels, &mut *tags);
     let index = naming::by_index(order, tags, labels);
-    let plan = planning::plan_rows(items, marks, index, count);
-    let ops = plan.ops;
-    let size = framing::config_size(shows.offset, labels) + plan.size as usize + 6;
-    Prepared {
-        ops,
-        order,
-        tags,
-        labels,
-        size,
-    }
+    let bytes = planning::plan_rows(slots, &marks, &index, count, &mut *ops);
+    let size = framing::config_size(offset, labels) + bytes as usize + 6;
+    Sizes { labels, size }
 }

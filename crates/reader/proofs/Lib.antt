@@ -1,4 +1,5 @@
 pub mod One
+pub mod Outlines
 mod Slots
 mod Listing
 mod Opening

@@ -1,4 +1,4 @@
--- What the two loops of a reading keep: what is left, and that the array holds the items so far.
+-- What the two loops of a reading keep: what is left, and that the slots hold the items so far.
 -- Assumes nothing.
 use Prim.Native.Nat.{ℕ, suc, _+_, _-_, _<_, _≤_}
 use mathlib.Core.Path.{_≡_, refl, sym, ap, ap₂, _∙_, subst}
@@ -8,6 +8,7 @@ use native.Mathlib.Numerals.{add-one}
 use native.Mathlib.Omega.{arith}
 use lib.ListN.{length, set, take, drop, replicate, length-map}
 use lib.Seq.{sets}
+use Rattle.lists.proofs.Cases.{absurd-eq}
 use Rattle.refusals.specs.declared.Refusal.{Refusal}
 use Rattle.refusals.specs.declared.Refusal.the-variants as R
 use Rattle.refusals.specs.declared.Answer.the-variants as A
@@ -25,7 +26,9 @@ use Rattle.pack.specs.declared.Step.the-variants as S
 use Rattle.pack.proofs.Padded.{set-padded}
 use Rattle.checker.proofs.Inside.{Inside, inside-begins, inside-ends, inside-on}
 use Rattle.checker.proofs.Coming.{Coming, coming-begins, coming-ends, coming-good, coming-plain, coming-none, coming-sync}
-use Rattle.reader.specs.Shown.{headOf, shownBody}
+use Rattle.slots.specs.Slots.{slotsIn}
+use Rattle.reader.specs.Shown.{headOf, shownBody, outlineOf, BodyTold}
+use Rattle.reader.specs.declared.Outline.{Outline}
 use Rattle.reader.proofs.Slots.{innerSlot, length-slots, slots-one, slots-many, sets-padded, sets-snoc, sets-before}
 
 -- the payloads of a Sync so far stand in the array from slot `used` on
@@ -38,14 +41,15 @@ pub filling-begins : (q tags : List ℕ) (base fuel used : ℕ) (items : List Sl
 filling-begins q tags base fuel used items h g = record { xs = []; inside = inside-begins q tags base fuel used h g; full = refl }
 
 pub filling-on : {q tags : List ℕ} {base fuel used : ℕ} {items₀ items : List Slot} {k j t v l : ℕ} {x : Payload} → Filling q tags base fuel used items₀ items k j
-    → j < length q → innerAt q j k ≡ Whole t v l → x ≡ payload tags (base + j) t (base + v) l
-    → Filling q tags base fuel used items₀ (set items k (slot (I.Inner x))) (k + 1) (v + l)
-filling-on {q} {tags} {base} {fuel} {used} {items₀} {items} {k} {j} {t} {v} {l} {x} g h e i = record {
+    → j < length q → innerAt q j k ≡ Whole t v l → x ≡ payload tags (base + j) t (base + v) l → {after : List Slot} → after ≡ set items k (slot (I.Inner x))
+    → Filling q tags base fuel used items₀ after (k + 1) (v + l)
+filling-on {q} {tags} {base} {fuel} {used} {items₀} {items} {k} {j} {t} {v} {l} {x} g h e i put = record {
   xs = g .xs ++ (payload tags (base + j) t (base + v) l ∷ []);
   inside = inside-on (g .inside) h e;
   full =
       let m : used + length (map innerSlot (g .xs)) ≡ k = omega (arith, length-map (g .xs) innerSlot, g .inside .long) in
-      ap₂ (λ (a : List Slot) (y : Payload). set a k (innerSlot y)) (g .full) i
+      put
+      ∙ ap₂ (λ (a : List Slot) (y : Payload). set a k (innerSlot y)) (g .full) i
       ∙ sets-snoc items₀ used (map innerSlot (g .xs)) k (innerSlot (payload tags (base + j) t (base + v) l)) m
       ∙ ap (sets items₀ used) (sym (map-append innerSlot (g .xs) (payload tags (base + j) t (base + v) l ∷ [])));
 }
@@ -75,18 +79,19 @@ pub record Listing (s tags : List ℕ) (from : ℕ) (items : List Slot) (n at : 
   pub state : Going s tags from parts n at c
   pub full : items ≡ padded 64 blank (slots parts)
 
-pub listing-begins : (s tags : List ℕ) (from : ℕ) → Listing s tags from (replicate 64 blank) 0 from false
+pub listing-begins : (s tags : List ℕ) (from : ℕ) {items : List Slot} → items ≡ replicate 64 blank → Listing s tags from items 0 from false
 unfolding slots
-listing-begins s tags from = record { parts = []; state = going (coming-begins s tags from); full = refl }
+listing-begins s tags from e = record { parts = []; state = going (coming-begins s tags from); full = e }
 
--- how a refusal is shown
-pub shown-refused : {o : Outcome Body} {why : Refusal} {p : ℕ} {r : Reading} (offset mapped : ℕ) (tags places : List ℕ) → o ≡ refused why p → r ≡ shown (refused why p)
-    → r ≡ shownBody offset mapped tags places o
-unfolding shownBody
-shown-refused offset mapped tags places e q = q ∙ sym (ap (shownBody offset mapped tags places) e)
+-- what is told of a refusal
+pub tells-refused : {o : Outcome Body} {why : Refusal} {p : ℕ} {r : Outline} (offset mapped : ℕ) (all slots : List ℕ) → o ≡ refused why p
+    → r ≡ outlineOf (shown (refused why p)) → BodyTold offset mapped all o r slots
+unfolding shownBody shown
+tells-refused offset mapped all slots e q places =
+    (q ∙ sym (ap (λ (b : Outcome Body). outlineOf (shownBody offset mapped all places b)) e), λ n h. absurd-eq (cc))
 
 module _ {s tags : List ℕ} {from : ℕ} {items : List Slot} {n at : ℕ} {c : Bool} (g : Listing s tags from items n at c) where
-  pub listing-ends : (offset mapped : ℕ) (all places : List ℕ) → length s ≤ at
+  listing-ends : (offset mapped : ℕ) (all places : List ℕ) → length s ≤ at
       → _≡_ {A = Reading} (record { answer = A.Done n; offset = offset; crc = c; mapped = mapped; tags = all; labels = places; items = items })
       (shownBody offset mapped all places (itemsFrom (length s) s tags from 0))
   unfolding shownBody
@@ -106,13 +111,14 @@ module _ {s tags : List ℕ} {from : ℕ} {items : List Slot} {n at : ℕ} {c : 
     pub listing-closed : {v end : ℕ} → itemAt s at n ≡ S.Close v → crcGood s v ≡ true → length s ≤ end → Listing s tags from items n end true
     listing-closed e d l = record { parts = g .parts; state = closed (coming-good now-coming h e d) l (now-coming .long); full = g .full }
 
-    pub listing-plain : {t v l : ℕ} {x : Payload} → itemAt s at n ≡ S.Plain t v l → n < 64 → x ≡ payload tags at t v l
-        → Listing s tags from (set items n (slot (I.Single x))) (n + 1) (v + l) c
-    listing-plain {t} {v} {l} {x} e r i = record {
+    pub listing-plain : {t v l : ℕ} {x : Payload} → itemAt s at n ≡ S.Plain t v l → n < 64 → x ≡ payload tags at t v l → {after : List Slot}
+        → after ≡ set items n (slot (I.Single x)) → Listing s tags from after (n + 1) (v + l) c
+    listing-plain {t} {v} {l} {x} e r i put = record {
       parts = g .parts ++ (one (payload tags at t v l) ∷ []);
       state = goes-on (g .state) h (coming-plain now-coming h e);
       full =
-          ap₂ (λ (a : List Slot) (y : Payload). set a n (slot (I.Single y))) (g .full) i
+          put
+          ∙ ap₂ (λ (a : List Slot) (y : Payload). set a n (slot (I.Single y))) (g .full) i
           ∙ set-padded 64 blank (slots (g .parts)) n used (slot (I.Single (payload tags at t v l))) r
           ∙ ap (padded 64 blank) (sym (slots-one (g .parts) (payload tags at t v l)));
     }
@@ -123,8 +129,9 @@ module _ {s tags : List ℕ} {from : ℕ} {items : List Slot} {n at : ℕ} {c : 
       pub listing-none : k ≡ n + 1 → itemsFrom (length s) s tags from 0 ≡ refused R.Sync at
       listing-none u = coming-none now-coming h e (w .xs) (inside-ends (w .inside) z) (omega (arith, w .inside .long))
 
-      pub listing-sync : {x : Head} → (k ≡ n + 1 → ⊥) → x ≡ headOf s at v l (k - (n + 1)) → Listing s tags from (set items₁ n (slot (I.Sync x))) k (v + l) c
-      listing-sync {x} u i =
+      pub listing-sync : {x : Head} → (k ≡ n + 1 → ⊥) → x ≡ headOf s at v l (k - (n + 1)) → {after : List Slot} → after ≡ set items₁ n (slot (I.Sync x))
+          → Listing s tags from after k (v + l) c
+      listing-sync {x} u i put =
           let long : n + 1 + length (w .xs) ≡ k = w .inside .long in
           let m : k - (n + 1) ≡ length (w .xs) = omega arith in
           let y = syncHead s at v l (w .xs) in
@@ -135,10 +142,18 @@ module _ {s tags : List ℕ} {from : ℕ} {items : List Slot} {n at : ℕ} {c : 
             parts = g .parts ++ (many y (w .xs) ∷ []);
             state = subst (λ (d : ℕ). Going s tags from (g .parts ++ (many y (w .xs) ∷ [])) d (v + l) c) long (goes-on (g .state) h coming);
             full =
-                ap₂ (λ (a : List Slot) (d : Head). set a n (slot (I.Sync d))) (w .full) (i ∙ ap (headOf s at v l) m)
+                put
+                ∙ ap₂ (λ (a : List Slot) (d : Head). set a n (slot (I.Sync d))) (w .full) (i ∙ ap (headOf s at v l) m)
                 ∙ sets-before items (n + 1) n (map innerSlot (w .xs)) (slot (I.Sync y)) (omega arith)
                 ∙ ap (λ (d : ℕ). sets (set items n (slot (I.Sync y))) d (map innerSlot (w .xs))) (add-one n)
                 ∙ ap (λ (a : List Slot). sets a n ys) (g .full)
                 ∙ sets-padded 64 blank (slots (g .parts)) n ys used (omega (arith, many-long, w .inside .room))
                 ∙ ap (padded 64 blank) (sym (slots-many (g .parts) y (w .xs)));
           }
+
+-- the items are read
+pub tells-done : {s tags : List ℕ} {from n at : ℕ} {c : Bool} (slots : List ℕ) → Listing s tags from (slotsIn slots) n at c → (offset mapped : ℕ) (all : List ℕ) → length s ≤ at
+    → BodyTold offset mapped all (itemsFrom (length s) s tags from 0) (record { answer = A.Done n; offset = offset; crc = c; mapped = mapped }) slots
+tells-done slots g offset mapped all h places =
+    let e = listing-ends g offset mapped all places h in
+    (ap outlineOf e, λ m d. e)

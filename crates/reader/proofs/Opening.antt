@@ -4,7 +4,7 @@ use Prim.Native.Nat.{ℕ, _+_, _≤_}
 use mathlib.Core.Path.{_≡_, refl, sym, ap, ap₂, _∙_, subst}
 use mathlib.Core.List.{List}
 use native.Mathlib.Omega.{arith}
-use lib.ListN.{length, take, length-map}
+use lib.ListN.{length, take, replicate, length-map}
 use lib.Dec.{ltb}
 use borrow.Author.Tests.{ltb-true, ltb-false}
 use Rattle.lists.proofs.Cases.{split, absurd-eq}
@@ -15,7 +15,7 @@ use Rattle.refusals.specs.Outcomes.{Outcome, fine, refused, andThen}
 use Rattle.numbers.specs.Big.{bigAt}
 use Rattle.pack.specs.Config.{Mapping, tagsOf}
 use Rattle.pack.specs.Items.{Body, itemsFrom}
-use Rattle.pack.specs.Reading.{valueStart, Opening, openingAt, readFrom, reading, shown}
+use Rattle.pack.specs.Reading.{Read, valueStart, Opening, openingAt, readFrom, reading, shown}
 use Rattle.pack.proofs.Padded.{take-padded, length-padded}
 use Rattle.pack.proofs.Start.{start-small}
 use Rattle.config.specs.First.{firstAt}
@@ -24,7 +24,8 @@ use Rattle.config.specs.declared.First.the-variants as F
 use Rattle.config.proofs.Maps.{tables-none}
 use Rattle.config.proofs.Openings.{opens-without, opens-with, maps-short}
 use Rattle.checker.proofs.Outcomes.{then-fine, then-refused, then-then, fine-of, refused-of}
-use Rattle.reader.specs.Shown.{shownBody, openedOf, Opens}
+use Rattle.reader.specs.Shown.{shownBody, outlineOf, Outlined, BodyTold, openedOf, Opens}
+use Rattle.reader.specs.declared.Outline.{Outline}
 use Rattle.reader.specs.declared.Opened.{Opened}
 use Rattle.reader.specs.declared.Opened.the-variants as O
 
@@ -97,8 +98,13 @@ shown-by x t (fine b) =
 shown-by x t (refused why p) = refl
 
 module _ (s : List ℕ) {r : Opened} {tags places known : List ℕ} (g : Opens (opening s) r tags places known) where
-  pub whole-refused : {why : Refusal} {p : ℕ} → r ≡ O.Refused why p → reading s ≡ refused why p
+  whole-refused : {why : Refusal} {p : ℕ} → r ≡ O.Refused why p → reading s ≡ refused why p
   whole-refused e = whole s ∙ then-refused (readFrom s) (told-refused (opening s) (sym e ∙ g .told))
+
+  pub outlined-refused : {why : Refusal} {p : ℕ} {o : Outline} {slots : List ℕ} → r ≡ O.Refused why p → o ≡ outlineOf (shown (refused why p))
+      → Outlined s o slots tags places
+  unfolding shown
+  outlined-refused e q = record { told = q ∙ ap (λ (b : Outcome Read). outlineOf (shown b)) (sym (whole-refused e)); whole = λ n h. absurd-eq (cc) }
 
   module _ {f m n : ℕ} (e : r ≡ O.From f m n) where
     from : (P : Type 0) → ((x : Opening) → opening s ≡ fine x → Tables (x .mappings) tags places known → f ≡ x .offset → m ≡ length (x .mappings) → n ≡ x .next → P) → P
@@ -112,17 +118,18 @@ module _ (s : List ℕ) {r : Opened} {tags places known : List ℕ} (g : Opens (
     tags-are x t b =
         ap (take m) (t .tagged) ∙ take-padded 32 0 (tagsOf (x .mappings)) m (length-map (x .mappings) (λ (q : Mapping). q .tag) ∙ sym b)
 
-    pub asked : (length s ≤ 32768) × Filled m tags × Knows (take m tags) known
-    asked =
-        from ((length s ≤ 32768) × Filled m tags × Knows (take m tags) known)
+    pub asked : {slots : List ℕ} → slots ≡ replicate 512 0 → (length s ≤ 32768) × Filled m tags × Knows (take m tags) known × (slots ≡ replicate 512 0)
+    asked {slots} none =
+        from ((length s ≤ 32768) × Filled m tags × Knows (take m tags) known × (slots ≡ replicate 512 0))
         (λ x q t a b d.
         let l : length tags ≡ 32 = ap length (t .tagged) ∙ length-padded 32 0 (tagsOf (x .mappings)) m (length-map (x .mappings) (λ (y : Mapping). y .tag) ∙ sym b) (omega (arith, t .few)) in (
           small s (valueStart s) refl q,
           record { few = omega (arith, t .few); there = omega (arith, t .few) },
           subst (λ (u : List ℕ). Knows u known) (sym (tags-are x t b)) (t .index),
+          none,
         ))
 
-    pub whole-from : shownBody f m tags places (itemsFrom (length s) s (take m tags) n 0) ≡ shown (reading s)
+    whole-from : shownBody f m tags places (itemsFrom (length s) s (take m tags) n 0) ≡ shown (reading s)
     unfolding readFrom
     whole-from =
         from (shownBody f m tags places (itemsFrom (length s) s (take m tags) n 0) ≡ shown (reading s))
@@ -131,3 +138,6 @@ module _ (s : List ℕ) {r : Opened} {tags places known : List ℕ} (g : Opens (
         ∙ ap₂ (λ (u : List ℕ) (y : ℕ). shownBody (x .offset) (length (x .mappings)) tags places (itemsFrom (length s) s u y 0)) (tags-are x t b) d
         ∙ shown-by x t (itemsFrom (length s) s (tagsOf (x .mappings)) (x .next) 0)
         ∙ ap shown (sym (whole s ∙ then-fine (readFrom s) q)))
+
+    pub outlined-from : {o : Outline} {slots : List ℕ} → BodyTold f m tags (itemsFrom (length s) s (take m tags) n 0) o slots → Outlined s o slots tags places
+    outlined-from b = record { told = b places .0 ∙ ap outlineOf whole-from; whole = λ k h. b places .1 k h ∙ whole-from }

@@ -1,18 +1,22 @@
 -- Items in the slots of a reading: one part more is so many stores more.
 -- Assumes nothing.
-use Prim.Native.Nat.{ℕ, suc, _+_, _<_, _≤_}
-use mathlib.Core.Path.{_≡_, refl, sym, ap, _∙_}
+use Prim.Native.Nat.{ℕ, suc, _+_, _-_, _*_, _<_, _≤_}
+use mathlib.Core.Path.{_≡_, refl, sym, ap, ap₂, _∙_}
 use mathlib.Core.List.{List, [], _∷_, _++_, map, append-assoc, append-nil}
+use native.Mathlib.Numerals.{add-one}
 use native.Mathlib.Omega.{arith}
-use lib.ListN.{length, set, length-append, length-map}
-use lib.Seq.{sets, set-comm}
+use lib.ListN.{length, set, take, replicate, length-append, length-map}
+use lib.Seq.{sets, set-comm, take-all, take-suc, length-take-le}
 use Rattle.pack.specs.Items.{Part, one, many, countOf}
-use Rattle.pack.specs.Reading.{slot, slots, padded}
+use Rattle.pack.specs.Reading.{slot, slots, blank, padded}
 use Rattle.pack.specs.declared.Payload.{Payload}
 use Rattle.pack.specs.declared.Head.{Head}
+use Rattle.pack.specs.declared.Item.{Item}
 use Rattle.pack.specs.declared.Item.the-variants as I
 use Rattle.pack.specs.declared.Slot.{Slot}
 use Rattle.pack.proofs.Padded.{set-padded}
+use Rattle.slots.specs.Slots.{itemAt, slotsIn}
+use Rattle.slots.proofs.Laws.{length-in, slot-in}
 
 abbrev pub innerSlot : Payload → Slot
 innerSlot x = slot (I.Inner x)
@@ -60,3 +64,21 @@ sets-before l i n [] x h = refl
 sets-before l i n (v ∷ vs) x h =
     let d : i ≡ n → ⊥ = λ e. absurd (omega arith) in
     sets-before (set l i v) (suc i) n vs x (omega arith) ∙ ap (λ (m : List _). sets m (suc i) vs) (set-comm l i n v x d)
+
+-- AN ARRAY OF NUMBERS AS ONE OF STRUCTS
+
+-- the first slots are filled: one more, and all
+module _ (s : List ℕ) {items : List Slot} where
+  pub listed-next : {i : ℕ} {x : Item} → i < 64 → items ≡ padded 64 blank (take i (slotsIn s)) → x ≡ itemAt s (8 * i)
+      → set items i (slot x) ≡ padded 64 blank (take (i + 1) (slotsIn s))
+  listed-next {i} {x} h e q =
+      ap₂ (λ (a : List Slot) (y : Item). set a i (slot y)) e q
+      ∙ set-padded 64 blank (take i (slotsIn s)) i (length-take-le i (slotsIn s) (omega (arith, length-in s))) (slot (itemAt s (8 * i))) h
+      ∙ ap (λ (y : Slot). padded 64 blank (take i (slotsIn s) ++ (y ∷ []))) (sym (slot-in s i blank h))
+      ∙ ap (padded 64 blank) (sym (ap (λ (k : ℕ). take k (slotsIn s)) (add-one i) ∙ take-suc (slotsIn s) i blank (omega (arith, length-in s))))
+
+  pub listed-all : {i : ℕ} → 64 ≤ i → items ≡ padded 64 blank (take i (slotsIn s)) → items ≡ slotsIn s
+  listed-all {i} h e =
+      let all = take-all i (slotsIn s) (omega (arith, length-in s)) in
+      let none : 64 - length (slotsIn s) ≡ 0 = omega (arith, length-in s) in
+      e ∙ ap (padded 64 blank) all ∙ ap (λ (k : ℕ). slotsIn s ++ replicate k blank) none ∙ append-nil (slotsIn s)

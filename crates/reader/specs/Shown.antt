@@ -10,10 +10,12 @@ use Rattle.numbers.specs.Big.{bigAt}
 use Rattle.pack.specs.Fixed.{itemCap}
 use Rattle.pack.specs.Config.{Mapping}
 use Rattle.pack.specs.Items.{Body, countOf}
-use Rattle.pack.specs.Reading.{Opening, slots, blank, padded, shown}
+use Rattle.pack.specs.Reading.{Opening, reading, slots, blank, padded, shown}
 use Rattle.pack.specs.declared.Head.{Head}
 use Rattle.pack.specs.declared.Reading.{Reading}
 use Rattle.config.specs.Tables.{Hold}
+use Rattle.slots.specs.Slots.{slotsIn}
+use Rattle.reader.specs.declared.Outline.{Outline}
 use Rattle.reader.specs.declared.Opened.{Opened}
 use Rattle.reader.specs.declared.Opened.the-variants as O
 
@@ -33,6 +35,34 @@ shownBody offset mapped tags places (fine b) = record {
   items = padded itemCap blank (slots (b .parts));
 }
 shownBody offset mapped tags places (refused why place) = shown (refused why place)
+
+-- what is read beside the slots and the mappings
+abbrev pub outlineOf : Reading → Outline
+outlineOf f = record { answer = f .answer; offset = f .offset; crc = f .crc; mapped = f .mapped }
+
+-- a reading's struct from its outline and what the arrays hold
+abbrev pub assembled : Outline → List ℕ → List ℕ → List ℕ → Reading
+assembled o tags places slots = record {
+  answer = o .answer;
+  offset = o .offset;
+  crc = o .crc;
+  mapped = o .mapped;
+  tags = tags;
+  labels = places;
+  items = slotsIn slots;
+}
+
+-- the outline is that of the reading, and where the pack is accepted the arrays hold the rest of it
+pub record Outlined (s : List ℕ) (r : Outline) (slots tags places : List ℕ) : Type 0 where
+  pub told : r ≡ outlineOf (shown (reading s))
+  pub whole : (n : ℕ) → r .answer ≡ A.Done n → assembled r tags places slots ≡ shown (reading s)
+
+-- so it is of the items of a pack whose opening is known, wherever the labels of its mappings stand
+abbrev pub BodyTold : ℕ → ℕ → List ℕ → Outcome Body → Outline → List ℕ → Type 0
+BodyTold offset mapped tags o r slots =
+    (places : List ℕ)
+    → (r ≡ outlineOf (shownBody offset mapped tags places o))
+    × ((n : ℕ) → r .answer ≡ A.Done n → assembled r tags places slots ≡ shownBody offset mapped tags places o)
 
 -- an opening as the code has it: three numbers, or the refusal
 unfoldable pub openedOf : Outcome Opening → Opened

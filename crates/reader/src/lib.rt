@@ -1,14 +1,16 @@
-// The reading of a pack, by value; and the stretches of the pack that it speaks of.
+// The reading of a pack, into lent arrays or by value; and the stretches of the pack that it speaks of.
 ghost use mathlib.Core.Path.{_≡_};
 ghost use Prim.Native.Nat.{_+_, _≤_};
 ghost use lib.ListN.{length, take, replicate};
 ghost use Rattle.refusals.specs.Outcomes.{Outcome, andThen};
+ghost use Rattle.pack.specs.Fixed.{mappingCap};
 ghost use Rattle.pack.specs.Payloads.{payload};
 ghost use Rattle.pack.specs.Items.{itemsFrom};
 ghost use Rattle.pack.specs.Reading.{valueStart, openingAt, reading, blank, shown};
 ghost use Rattle.pack.specs.Meaning.{stretchIn, valueOf, labelAt};
 ghost use Rattle.config.specs.Tables.{Filled, Knows, Empty};
-ghost use Rattle.reader.specs.Shown.{headOf, shownBody, Opens};
+ghost use Rattle.slots.specs.Slots.{slotsIn};
+ghost use Rattle.reader.specs.Shown.{headOf, outlineOf, Outlined, BodyTold, Opens};
 use config::First;
 use pack::Found;
 use pack::Head;
@@ -32,6 +34,27 @@ pub enum Opened {
         why: Refusal,
         place: usize,
     },
+}
+
+// What is read of a pack beside its slots and its mappings: the count of items and inner payloads or the refusal, the pack's offset, whether a CRC
+// stood there, and how many mappings there are.
+pub struct Outline {
+    pub answer: Answer,
+    pub offset: u16,
+    pub crc: bool,
+    pub mapped: u32,
+}
+
+// The outline of a pack that is refused.
+fn stopped(why: Refusal, place: usize) -> Outline
+    ensures { λ r. ⌜ r ≡ outlineOf (shown (Outcome.refused why place)) ⌝ }
+{
+    Outline {
+        answer: Answer::Refused { why, place },
+        offset: 0,
+        crc: false,
+        mapped: 0,
+    }
 }
 
 // The slots of a reading that has no items.
@@ -104,29 +127,19 @@ fn head(s: &[u8], at: usize, value_start: usize, value_len: usize, inside: usize
     }
 }
 
-// The items of the pack from `from` on. One array holds them all; the inside of a Sync is handed to its reader as a part on its own. The blank is
-// made here, and each payload before its slot: what comes out of a call as a slot is stored piece by piece, which takes longer.
+// The items of the pack from `from` on, into `slots`, which come empty. The inside of a Sync is handed to its reader as a part on its own.
 fn read_items(
     s: &[u8],
     from: usize,
     offset: u16,
     mapped: usize,
     tags: &[u32; 32],
-    places: &[u32; 32],
     known: &[u8; 128],
-) -> Reading
-    requires { ⌜ (length (now s) ≤ 32768) × Filled mapped (now tags) × Knows (take mapped (now tags)) (now known) ⌝ }
-    ensures { λ r. ⌜ r ≡ shownBody offset mapped (now (tags .entry)) (now (places .entry)) (itemsFrom (length (now (s .entry))) (now (s .entry)) (take mapped (now (tags .entry))) from 0) ⌝ }
+    slots: &mut [u32; 512],
+) -> Outline
+    requires { ⌜ (length (now s) ≤ 32768) × Filled mapped (now tags) × Knows (take mapped (now tags)) (now known) × (now slots ≡ replicate 512 0) ⌝ }
+    ensures { λ r. ⌜ BodyTold offset mapped (now (tags .entry)) (itemsFrom (length (now (s .entry))) (now (s .entry)) (take mapped (now (tags .entry))) from 0) r (now (slots .exit)) ⌝ }
 {
-    let spare = Payload {
-        name: Name::Number(0),
-        start: 0,
-        value_start: 0,
-        value_len: 0,
-    };
-    let nothing = Item::Single(spare);
-    let blank = Slot { item: nothing };
-    let mut items = [blank; 64];
     let mut crc = false;
     let mut n: usize = 0;
     let mut at = from;
@@ -134,11 +147,11 @@ fn read_items(
         let step = pack::item_at(s, at, n);
         match step {
             Step::Bad(why) => {
-                return refused(why, at);
+                return stopped(why, at);
             }
             Step::Close { value_start } => {
                 if !checker::crc_good(s, value_start) {
-                    return refused(Refusal::Crc, at);
+                    return stopped(Refusal::Crc, at);
                 }
                 crc = true;
                 at = s.len();
@@ -150,7 +163,7 @@ fn read_items(
             } => {
                 let x = payload(tags, mapped, known, tag, at, value_start, value_len);
                 let i = Item::Single(x);
-                items[n] = Slot { item: i };
+                slots::put(&mut *slots, n, i);
                 n += 1;
                 at = value_start + value_len;
             }
@@ -166,7 +179,7 @@ fn read_items(
                     let found = pack::inner_at(&s[base..end], j, k);
                     match found {
                         Found::Wrong(why) => {
-                            return refused(why, base + j);
+                            return stopped(why, base + j);
                         }
                         Found::Whole {
                             tag,
@@ -183,33 +196,28 @@ fn read_items(
                                 value_len,
                             );
                             let i = Item::Inner(x);
-                            items[k] = Slot { item: i };
+                            slots::put(&mut *slots, k, i);
                             k += 1;
                             j = value_start + value_len;
                         }
                     }
                 }
                 if k == n + 1 {
-                    return refused(Refusal::Sync, at);
+                    return stopped(Refusal::Sync, at);
                 }
                 let h = head(s, at, value_start, value_len, k - (n + 1));
                 let i = Item::Sync(h);
-                items[n] = Slot { item: i };
+                slots::put(&mut *slots, n, i);
                 n = k;
                 at = end;
             }
         }
     }
-    let tags = *tags;
-    let labels = *places;
-    Reading {
+    Outline {
         answer: Answer::Done(n),
         offset,
         crc,
         mapped: mapped as u32,
-        tags,
-        labels,
-        items,
     }
 }
 
@@ -256,21 +264,64 @@ fn open(pack: &[u8], tags: &mut [u32; 32], places: &mut [u32; 32], known: &mut [
     }
 }
 
-// The reading of a pack: its offset, its mappings, its items in order and whether a CRC stood there, or the refusal and its place.
-pub fn read(pack: &[u8]) -> Reading
-    ensures { λ r. ⌜ r ≡ shown (reading (now (pack .entry))) ⌝ }
+// The reading of a pack, its slots as numbers in `slots`, the tags of its mappings in `tags`, and where their labels stand in `places`. All three
+// come empty; what they hold after a refusal is not told.
+pub fn read_into(
+    pack: &[u8],
+    slots: &mut [u32; 512],
+    tags: &mut [u32; 32],
+    places: &mut [u32; 32],
+) -> Outline
+    requires { ⌜ (now slots ≡ replicate 512 0) × (now tags ≡ replicate mappingCap 0) × (now places ≡ replicate mappingCap 0) ⌝ }
+    ensures { λ r. ⌜ Outlined (now (pack .entry)) r (now (slots .exit)) (now (tags .exit)) (now (places .exit)) ⌝ }
 {
-    let mut tags = [0u32; 32];
-    let mut places = [0u32; 32];
     let mut known = [0u8; 128];
-    let opened = open(pack, &mut tags, &mut places, &mut known);
+    let opened = open(pack, &mut *tags, &mut *places, &mut known);
     match opened {
-        Opened::Refused { why, place } => refused(why, place),
+        Opened::Refused { why, place } => stopped(why, place),
         Opened::From {
             offset,
             mapped,
             next,
-        } => read_items(pack, next, offset, mapped, &tags, &places, &known),
+        } => read_items(pack, next, offset, mapped, tags, &known, slots),
+    }
+}
+
+// The slots of an array of numbers, as structs.
+fn listed(slots: &[u32; 512]) -> [Slot; 64]
+    ensures { λ r. ⌜ r ≡ slotsIn (now (slots .entry)) ⌝ }
+{
+    let mut items = blanks();
+    let mut i: usize = 0;
+    while i < 64 {
+        let item = slots::item(slots, i);
+        items[i] = Slot { item };
+        i += 1;
+    }
+    items
+}
+
+// The reading of a pack: its offset, its mappings, its items in order and whether a CRC stood there, or the refusal and its place.
+pub fn read(pack: &[u8]) -> Reading
+    ensures { λ r. ⌜ r ≡ shown (reading (now (pack .entry))) ⌝ }
+{
+    let mut slots = [0u32; 512];
+    let mut tags = [0u32; 32];
+    let mut places = [0u32; 32];
+    let found = read_into(pack, &mut slots, &mut tags, &mut places);
+    let answer = found.answer;
+    if let Answer::Refused { why, place } = answer {
+        return refused(why, place);
+    }
+    let items = listed(&slots);
+    Reading {
+        answer,
+        offset: found.offset,
+        crc: found.crc,
+        mapped: found.mapped,
+        tags,
+        labels: places,
+        items,
     }
 }
 

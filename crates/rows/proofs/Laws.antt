@@ -1,12 +1,10 @@
 -- The rows of a reading: each has eight numbers, one comes after the other, what fills up the places changes none; and how the code makes one.
 -- Assumes nothing.
-use mathlib.Core.Path.{_≡_, refl, sym, ap, ap₂, subst, _∙_}
+use mathlib.Core.Path.{_≡_, refl, sym, ap, ap₂, _∙_}
 use mathlib.Core.List.{List, [], _∷_, _++_}
 use Prim.Native.Nat.{ℕ, zero, suc, _+_, _*_, _<_, _≤_}
 use native.Mathlib.Omega.{arith}
-use lib.ListN.{length, getD, take, drop, set, replicate, length-append, drop-of-length-le}
-use Rattle.lists.specs.Over.{Wrote}
-use Rattle.lists.proofs.Writing.{Writing, writing-begins, writing-byte, writing-done}
+use lib.ListN.{length, getD, take, drop, replicate, length-append, drop-of-length-le}
 use Rattle.pack.specs.declared.Name.{Name}
 use Rattle.pack.specs.declared.Name.the-variants.{Label, Number}
 use Rattle.pack.specs.declared.Payload.{Payload}
@@ -101,23 +99,3 @@ module _ (places : List ℕ) (form start v l : ℕ) {n : Name} where
   pub row-label : (i : ℕ) → n ≡ Label i → form ∷ start ∷ 1 ∷ getD places i 0 ∷ v ∷ l ∷ 0 ∷ 0 ∷ [] ≡ payloadRow places form n start v l
   unfolding payloadRow
   row-label i e = ap (λ (m : Name). payloadRow places form m start v l) (sym e)
-
--- EIGHT STORES
-
-next : {xs whole us : List ℕ} {a at : ℕ} (n b : ℕ) (left : List ℕ) → at + 1 ≡ n → Writing xs a whole us at (b ∷ left) → Writing xs a whole (set us at b) n left
-next {xs} {whole} {us} {a} {at} n b left e w = subst (λ (k : ℕ). Writing xs a whole (set us at b) k left) e (writing-byte b left w)
-
-module _ (xs : List ℕ) (at a b c d e f g h : ℕ) where
-  pub wrote-eight : at + 8 ≤ length xs
-      → Wrote xs at (a ∷ b ∷ c ∷ d ∷ e ∷ f ∷ g ∷ h ∷ []) (at + 8)
-      (set (set (set (set (set (set (set (set xs at a) (at + 1) b) (at + 2) c) (at + 3) d) (at + 4) e) (at + 5) f) (at + 6) g) (at + 7) h)
-  wrote-eight room =
-      let row = a ∷ b ∷ c ∷ d ∷ e ∷ f ∷ g ∷ h ∷ [] in
-      let one = next (at + 1) a (b ∷ c ∷ d ∷ e ∷ f ∷ g ∷ h ∷ []) (omega arith) (writing-begins xs at row room) in
-      let two = next (at + 2) b (c ∷ d ∷ e ∷ f ∷ g ∷ h ∷ []) (omega arith) one in
-      let three = next (at + 3) c (d ∷ e ∷ f ∷ g ∷ h ∷ []) (omega arith) two in
-      let four = next (at + 4) d (e ∷ f ∷ g ∷ h ∷ []) (omega arith) three in
-      let five = next (at + 5) e (f ∷ g ∷ h ∷ []) (omega arith) four in
-      let six = next (at + 6) f (g ∷ h ∷ []) (omega arith) five in
-      let seven = next (at + 7) g (h ∷ []) (omega arith) six in
-      writing-done (next (at + 8) h [] (omega arith) seven)

@@ -68,28 +68,19 @@ shown-rows s b (fine r) e n h =
     })
 shown-rows s b (refused why place) e n h = absurd-eq (cc)
 
-shown-refused : (o : Outcome Read) (why : Refusal) (place : ℕ) → shown o .answer ≡ A.Refused why place
-    → andThen o (λ (r : Read). fine (rowsOf r)) ≡ refused why place
-unfolding shown andThen
-shown-refused (fine r) why place h = absurd-eq (cc)
-shown-refused (refused other there) why place h = cc
-
--- what is delivered where the struct f shows how the pack s reads
-module _ (s before : List ℕ) (f : Reading) (e : f ≡ shown (reading s)) where
-  answer-is : {x : Answer} → f .answer ≡ x → shown (reading s) .answer ≡ x
-  answer-is h = sym (ap (λ (g : Reading). g .answer) e) ∙ h
-
+-- what is delivered for the pack s
+module _ (s before : List ℕ) where
   abbrev outcome : Outcome (List ℕ)
   outcome = within (length before) (rowsRead s)
 
-  pub rows-refused : {why : Refusal} {place : ℕ} → f .answer ≡ A.Refused why place → Delivered outcome before (f .answer) before
+  pub rows-refused : {a : Answer} {why : Refusal} {place : ℕ} → reading s ≡ refused why place → a ≡ A.Refused why place → Delivered outcome before a before
   unfolding andThen
-  rows-refused {why} {place} h =
-      delivered-refused (ap (within (length before)) (shown-refused (reading s) why place (answer-is h))) h
+  rows-refused e h = delivered-refused (ap (λ (o : Outcome Read). within (length before) (andThen o (λ (r : Read). fine (rowsOf r)))) e) h
 
-  module _ (b : Bytes s) (n : ℕ) (h : f .answer ≡ A.Done n) where
+  -- where the struct f shows how it reads
+  module _ (b : Bytes s) (f : Reading) (e : f ≡ shown (reading s)) (n : ℕ) (h : f .answer ≡ A.Done n) where
     pub rows-told : Told s f n
-    rows-told = subst (λ (g : Reading). Told s g n) (sym e) (shown-rows s b (reading s) refl n (answer-is h))
+    rows-told = subst (λ (g : Reading). Told s g n) (sym e) (shown-rows s b (reading s) refl n (sym (ap (λ (g : Reading). g .answer) e) ∙ h))
 
     pub rows-noroom : length before < 8 * (1 + n) → Delivered outcome before (A.Refused R.NoRoom 0) before
     rows-noroom l =

@@ -15,7 +15,6 @@ use Rattle.pack.specs.declared.Head.{Head}
 use Rattle.pack.specs.declared.Item.{Item}
 use Rattle.pack.specs.declared.Item.the-variants.{Single, Sync, Inner}
 use Rattle.pack.specs.declared.Slot.{Slot}
-use Rattle.rows.specs.declared.Row.{Row}
 
 -- a signed number, of whose 16 bits n is the number, in two's complement of 32 bits: its sign fills the upper 16
 unfoldable pub extended : ℕ → ℕ
@@ -53,7 +52,3 @@ rowsOf r =
 -- those of the bytes s, or the refusal
 abbrev pub rowsRead : List ℕ → Outcome (List ℕ)
 rowsRead s = andThen (reading s) (λ (r : Read). fine (rowsOf r))
-
--- the numbers of the struct that the code fills
-abbrev pub numbersOf : Row → List ℕ
-numbersOf r = r .form ∷ r .start ∷ r .named ∷ r .name ∷ r .«value_start» ∷ r .«value_len» ∷ r .offset ∷ r .duration ∷ []

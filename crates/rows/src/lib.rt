@@ -1,30 +1,18 @@
 // The reading of a pack as rows of eight numbers in a lent run.
 ghost use mathlib.Core.Path.{_≡_};
 ghost use mathlib.Core.Bool.{cond};
-ghost use Prim.Native.Nat.{_+_, _≤_};
+ghost use Prim.Native.Nat.{_≤_};
 ghost use lib.ListN.{length};
-ghost use Rattle.lists.specs.Over.{Wrote};
 ghost use Rattle.refusals.specs.Lent.{within, Delivered};
 ghost use Rattle.pack.specs.Rows.{NameFits, ItemFits};
-ghost use Rattle.rows.specs.Rows.{extended, packRow, payloadRow, itemRow, rowsRead, numbersOf};
+ghost use Rattle.slots.specs.Slots.{numbersOf};
+ghost use Rattle.rows.specs.Rows.{extended, packRow, payloadRow, itemRow, rowsRead};
 use pack::Item;
 use pack::Name;
 use pack::Payload;
 use refusals::Answer;
 use refusals::Refusal;
-
-// A row: its form (0 a payload, 1 a Sync, 2 a payload inside the Sync above), where it starts, what it is named by (0 a number, 1 a label,
-// 2 for a Sync), the tag or where the label stands or how many payloads are inside, the stretch of its value, and a Sync's two numbers.
-pub struct Row {
-    pub form: u32,
-    pub start: u32,
-    pub named: u32,
-    pub name: u32,
-    pub value_start: u32,
-    pub value_len: u32,
-    pub offset: u32,
-    pub duration: u32,
-}
+use slots::Row;
 
 // A signed number of 16 bits in two's complement of 32.
 fn extended(n: u16) -> u32
@@ -61,7 +49,7 @@ fn pack_row(offset: u16, crc: bool, count: usize) -> Row
     }
 }
 
-// The row of a payload. `places` says where the labels of the mappings stand in the pack.
+// The row of a payload. A label is told by where it stands in the pack, which `places` says of each mapping.
 fn payload_row(places: &[u32; 32], form: u32, x: Payload) -> Row
     requires { ⌜ NameFits (x .name) ⌝ }
     ensures { λ r. ⌜ numbersOf r ≡ payloadRow (now (places .entry)) form (x .name) (x .start) (x .«value_start») (x .«value_len») ⌝ }
@@ -112,28 +100,15 @@ fn item_row(places: &[u32; 32], item: Item) -> Row
     }
 }
 
-// Stores a row and answers the place after it.
-fn put_row(out: &mut [u32], at: usize, row: Row) -> usize
-    requires { ⌜ at + 8 ≤ length (now out) ⌝ }
-    ensures { λ r. ⌜ Wrote (now (out .entry)) at (numbersOf row) r (now (out .exit)) ⌝ }
-{
-    out[at] = row.form;
-    out[at + 1] = row.start;
-    out[at + 2] = row.named;
-    out[at + 3] = row.name;
-    out[at + 4] = row.value_start;
-    out[at + 5] = row.value_len;
-    out[at + 6] = row.offset;
-    out[at + 7] = row.duration;
-    at + 8
-}
-
 // Reads a pack into `out`: the pack's row, then one for each item and inner payload in order. Answers how many numbers these are, or the refusal
 // and its place: those of the pack, then NOROOM. Numbers after them do not change; a refusal changes none.
 pub fn rows(pack: &[u8], out: &mut [u32]) -> Answer
     ensures { λ r. ⌜ Delivered (within (length (now (out .entry))) (rowsRead (now (pack .entry)))) (now (out .entry)) r (now (out .exit)) ⌝ }
 {
-    let found = reader::read(pack);
+    let mut slots = [0u32; 512];
+    let mut tags = [0u32; 32];
+    let mut places = [0u32; 32];
+    let found = reader::read_into(pack, &mut slots, &mut tags, &mut places);
     let answer = found.answer;
     let Answer::Done(count) = answer else {
         return answer;
@@ -144,15 +119,13 @@ pub fn rows(pack: &[u8], out: &mut [u32]) -> Answer
             place: 0,
         };
     }
-    let places = found.labels;
     let first = pack_row(found.offset, found.crc, count);
-    let mut next = put_row(&mut *out, 0, first);
+    let mut next = slots::put_row(&mut *out, 0, first);
     let mut i: usize = 0;
     while i < count {
-        let slot = found.items[i];
-        let item = slot.item;
+        let item = slots::item(&slots, i);
         let row = item_row(&places, item);
-        next = put_row(&mut *out, next, row);
+        next = slots::put_row(&mut *out, next, row);
         i += 1;
     }
     Answer::Done(next)

@@ -6,17 +6,19 @@ use mathlib.Core.Bool.{true, false}
 use mathlib.Core.Logic.{_⊎_}
 use Prim.Native.Nat.{ℕ, _+_, _-_, _<_, _≤_}
 use native.Mathlib.Omega.{arith}
-use lib.ListN.{length, take, replicate}
+use lib.ListN.{length, take, replicate, length-append, length-replicate}
 use Rattle.lists.proofs.Cases.{absurd-eq}
 use Rattle.refusals.specs.declared.Refusal.{Refusal}
 use Rattle.refusals.specs.declared.Refusal.the-variants as R
 use Rattle.refusals.specs.declared.Answer.the-variants as A
 use Rattle.refusals.specs.Outcomes.{Outcome, fine, refused, andThen, answered}
 use Rattle.numbers.specs.Lengths.{lengthBytes}
+use Rattle.pack.specs.declared.Slot.{Slot}
 use Rattle.pack.specs.declared.Reading.{Reading}
 use Rattle.pack.specs.Items.{countOf}
 use Rattle.pack.specs.Fixed.{packCap}
-use Rattle.pack.specs.Reading.{Read, reading, shown}
+use Rattle.pack.specs.Reading.{Read, reading, slots, blank, shown}
+use Rattle.pack.proofs.Rows.{slots-count}
 use Rattle.pack.specs.Meaning.{meant}
 use Rattle.pack.specs.Said.{Said}
 use Rattle.kept.specs.Sheet.{Sheet, sheetOf}
@@ -30,8 +32,11 @@ use Rattle.sheet.specs.declared.Asked.the-variants as K
 use Rattle.sheet.specs.Judged.{judged, asks, outcome}
 use Rattle.sheet.proofs.Header.{judged-outcome, judged-holds}
 use Rattle.framing.specs.Laid.{contentAt, framed, sealed, Packed, Packs}
-use Rattle.preparing.specs.declared.Prepared.{Prepared}
-use Rattle.preparing.specs.Ready.{Accepts, Ready}
+use Rattle.slots.specs.Slots.{slotsIn}
+use Rattle.slots.proofs.Laws.{length-in}
+use Rattle.reader.specs.declared.Outline.{Outline}
+use Rattle.reader.specs.Shown.{Outlined}
+use Rattle.preparing.specs.Ready.{Accepts, Prepared, Ready}
 use Rattle.scrub.specs.Scrubs.{Scrubs, isRefused, Good}
 
 -- THE SHEET
@@ -75,27 +80,48 @@ unfolding answered
 answer-done (fine r) n e = (r, refl, cc)
 answer-done (refused w p) n e = absurd-eq (cc)
 
-pub pack-refused : (sheet s before : List ℕ) (x : Asked) (shows : Reading) (why : Refusal) (place : ℕ) → Good sheet x → shows ≡ shown (reading s)
-    → shows .answer ≡ A.Refused why place → Scrubs sheet s before (A.Refused why place) before
-unfolding scrubbed andThen answered leaves
-pack-refused sheet s before x shows why place g e h =
-    let z : reading s ≡ refused why place =
-    answer-refused (reading s) why place (sym (shown-answer (reading s)) ∙ ap (λ (r : Reading). r .answer) (sym e) ∙ h) in
-    record { answer = rw (g .is, z); buffer = rw (g .is, z) }
+-- what an outline tells of a pack
+module _ (sheet s before : List ℕ) (x : Asked) (good : Good sheet x) {shows : Outline} {held tags places : List ℕ} (o : Outlined s shows held tags places) where
+  pub pack-refused : (why : Refusal) (place : ℕ) → shows .answer ≡ A.Refused why place → Scrubs sheet s before (A.Refused why place) before
+  unfolding scrubbed andThen answered leaves
+  pack-refused why place h =
+      let z : reading s ≡ refused why place = answer-refused (reading s) why place (sym (shown-answer (reading s)) ∙ sym (ap (λ (y : Outline). y .answer) (o .told)) ∙ h) in
+      record { answer = rw (good .is, z); buffer = rw (good .is, z) }
 
-pub pack-accepted : (s : List ℕ) (shows : Reading) (n : ℕ) → shows ≡ shown (reading s) → shows .answer ≡ A.Done n → Accepts s shows n
-pack-accepted s shows n e h =
-    let d = answer-done (reading s) n (sym (shown-answer (reading s)) ∙ ap (λ (r : Reading). r .answer) (sym e) ∙ h) in
-    record { read = d .0; is = d .1; struct = e ∙ ap shown (d .1); counted = d .2 }
+  pub pack-accepted : (n : ℕ) → shows .answer ≡ A.Done n → Accepts s (shows .offset) (shows .mapped) places (slotsIn held) n
+  unfolding shown
+  pack-accepted n h =
+      let d = answer-done (reading s) n (sym (shown-answer (reading s)) ∙ sym (ap (λ (y : Outline). y .answer) (o .told)) ∙ h) in
+      let e = o .whole n h ∙ ap shown (d .1) in
+      record {
+        read = d .0;
+        is = d .1;
+        starts = ap (λ (r : Reading). r .offset) e;
+        maps = ap (λ (r : Reading). r .mapped) e;
+        stand = ap (λ (r : Reading). r .labels) e;
+        hold = ap (λ (r : Reading). r .items) e;
+        counted = d .2;
+      }
+
+-- no more slots than there are hold something
+pub rows-few : {s : List ℕ} {offset mapped : ℕ} {places : List ℕ} (held : List ℕ) {n : ℕ} → Accepts s offset mapped places (slotsIn held) n → n ≤ 64
+rows-few {s} {offset} {mapped} {places} held {n} a =
+    let xs = slots (a .read .body .parts) in
+    let l = sym (length-in held) ∙ ap length (a .hold) ∙ length-append xs (replicate (64 - length xs) blank) in
+    let r = length-replicate (64 - length xs) blank in
+    let c = slots-count (a .read .body .parts) in
+    let e = a .counted in
+    omega arith
 
 -- WRITING
 
-module _ (sheet s before : List ℕ) (x : Asked) (shows : Reading) (n : ℕ) (g : Good sheet x) (a : Accepts s shows n) (r : Prepared)
-    (made : (q : Read) → reading s ≡ fine q → Ready (kept (asks sheet x) (meant s q)) s (shows .offset) (shows .labels) r) where
+module _ (sheet s before : List ℕ) (x : Asked) {offset mapped : ℕ} {places : List ℕ} {items : List Slot} {n : ℕ} (g : Good sheet x)
+    (a : Accepts s offset mapped places items n) (r : Prepared)
+    (made : (q : Read) → reading s ≡ fine q → Ready (kept (asks sheet x) (meant s q)) s offset places r) where
   abbrev what : Said
   what = kept (asks sheet x) (meant s (a .read))
 
-  ready : Ready what s (shows .offset) (shows .labels) r
+  ready : Ready what s offset places r
   ready = made (a .read) (a .is)
 
   pub size-small : r .size < 4000000
@@ -114,7 +140,7 @@ module _ (sheet s before : List ℕ) (x : Asked) (shows : Reading) (n : ℕ) (g 
       let z : scrubbed sheet s (length before) ≡ refused R.NoRoom 0 = room-is ∙ room-short (length before) (written what) (rw (← whole-is) h) in
       record { answer = rw z; buffer = rw z }
 
-  pub packs : 16 + length (lengthBytes (r .size)) + r .size ≤ length before → Packs s (shows .offset) (shows .labels) (take (r .labels) (r .order)) (r .tags) (r .ops) (r .size) (length before)
+  pub packs : 16 + length (lengthBytes (r .size)) + r .size ≤ length before → Packs s offset places (take (r .labels) (r .order)) (r .tags) (r .ops) (r .size) (length before)
   packs h = record {
     entries = ready .entries;
     writes = ready .writes;
@@ -127,11 +153,11 @@ module _ (sheet s before : List ℕ) (x : Asked) (shows : Reading) (n : ℕ) (g 
   labels-few = ready .few
 
   pub wrote : (k : ℕ) (after : List ℕ) → 16 + length (lengthBytes (r .size)) + r .size ≤ length before → 16 + length (lengthBytes (r .size)) + r .size ≤ packCap
-      → Packed before (sealed (framed (contentAt s (shows .offset) (shows .labels) (take (r .labels) (r .order)) (r .tags) (r .ops)))) k after
+      → Packed before (sealed (framed (contentAt s offset places (take (r .labels) (r .order)) (r .tags) (r .ops)))) k after
       → Scrubs sheet s before (A.Done k) after
   unfolding answered leaves
   wrote k after fits cap p =
-      let e : sealed (framed (contentAt s (shows .offset) (shows .labels) (take (r .labels) (r .order)) (r .tags) (r .ops))) ≡ written what =
+      let e : sealed (framed (contentAt s offset places (take (r .labels) (r .order)) (r .tags) (r .ops))) ≡ written what =
       ap (λ (l : List ℕ). sealed (framed l)) (ready .content) ∙ sym (written-bytes what) in
       let w = whole-is in
       let z : scrubbed sheet s (length before) ≡ fine (written what) = room-is ∙ room-enough (length before) (written what) (omega arith) (omega arith) in

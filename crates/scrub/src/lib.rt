@@ -1,8 +1,8 @@
 // The scrub: the pack that a sheet keeps of a pack, written anew into a lent buffer.
 ghost use mathlib.Core.Path.{_≡_};
+ghost use Rattle.slots.specs.Slots.{slotsIn};
 ghost use Rattle.preparing.specs.Ready.{Accepts};
 ghost use Rattle.scrub.specs.Scrubs.{Scrubs, isRefused, Good};
-use pack::Reading;
 use refusals::Answer;
 use refusals::Refusal;
 use sheet::Asked;
@@ -28,14 +28,32 @@ fn write_kept(
     sheet: &[u8],
     asked: Asked,
     p: &[u8],
-    shows: Reading,
+    slots: &[u32; 512],
+    places: &[u32; 32],
+    mapped: usize,
+    offset: u16,
     count: usize,
     out: &mut [u8],
 ) -> Answer
-    requires { ⌜ Good (now sheet) asked × Accepts (now p) shows count ⌝ }
+    requires { ⌜ Good (now sheet) asked × Accepts (now p) offset mapped (now places) (slotsIn (now slots)) count ⌝ }
     ensures { λ r. ⌜ Scrubs (now (sheet .entry)) (now (p .entry)) (now (out .entry)) r (now (out .exit)) ⌝ }
 {
-    let ready = preparing::prepare(sheet, asked, p, shows, count);
+    let mut order = [0u32; 64];
+    let mut tags = [0u32; 64];
+    let mut ops = [0u32; 256];
+    let ready = preparing::prepare(
+        sheet,
+        asked,
+        p,
+        slots,
+        places,
+        mapped,
+        offset,
+        count,
+        &mut order,
+        &mut tags,
+        &mut ops,
+    );
     let size = ready.size;
     let whole = 16 + numbers::length_size(size as u32) + size;
     if whole > out.len() {
@@ -50,18 +68,16 @@ fn write_kept(
             place: 0,
         };
     }
-    let places = shows.labels;
-    let order = ready.order;
-    let tags = ready.tags;
-    let ops = ready.ops;
+    let stand = *places;
     let written = framing::write_pack(
         p,
-        shows.offset,
-        places,
+        offset,
+        stand,
         order,
         tags,
         ready.labels,
-        ops,
+        &ops,
+        count,
         size,
         out,
     );
@@ -80,10 +96,23 @@ pub fn scrub(sheet: &[u8], pack: &[u8], out: &mut [u8]) -> Answer
             place: 0,
         };
     }
-    let shows = reader::read(pack);
+    let mut slots = [0u32; 512];
+    let mut tags = [0u32; 32];
+    let mut places = [0u32; 32];
+    let shows = reader::read_into(pack, &mut slots, &mut tags, &mut places);
     let answer = shows.answer;
     match answer {
         Answer::Refused { why, place } => Answer::Refused { why, place },
-        Answer::Done(count) => write_kept(sheet, asked, pack, shows, count, out),
+        Answer::Done(count) => write_kept(
+            sheet,
+            asked,
+            pack,
+            &slots,
+            &places,
+            shows.mapped as usize,
+            shows.offset,
+            count,
+            out,
+        ),
     }
 }

@@ -1,2 +1,3 @@
 pub mod Runs
 pub mod Ops
+pub mod Cells

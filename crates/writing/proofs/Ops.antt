@@ -9,15 +9,14 @@ use lib.ListN.{length, take, drop, getD, length-append, length-drop, drop-of-len
 use lib.Seq.{drop-cons, length-take-le}
 use Rattle.lists.specs.Digits.{digits}
 use Rattle.lists.specs.Over.{Wrote}
-use Rattle.lists.proofs.Over.{wrote-none}
+use Rattle.lists.proofs.Over.{wrote-none, wrote-as}
 use Rattle.lists.proofs.Writing.{Writing, writing-begins, writing-as, writing-run, writing-done}
 use Rattle.lists.proofs.Digits.{length-digits}
 use Rattle.numbers.specs.Tags.{tagBytes}
 use Rattle.numbers.specs.Lengths.{lengthBytes}
 use Rattle.writing.specs.declared.Op.{Op}
 use Rattle.writing.specs.declared.Op.the-variants.{Skip, Put, Open}
-use Rattle.writing.specs.declared.OpSlot.{OpSlot}
-use Rattle.writing.specs.Ops.{opBytes, opsBytes, OpFits, OpsFit}
+use Rattle.writing.specs.Ops.{opBytes, opsBytes, OpSlot, OpFits, OpsFit}
 
 pub value-length : (s : List ℕ) (v l : ℕ) → v + l ≤ length s → length (take l (drop v s)) ≡ l
 value-length s v l h = length-take-le l (drop v s) (simp length-drop (omega arith))
@@ -72,19 +71,19 @@ unfolding opBytes
 open-any s n o d = refl
 
 -- the loop: what is left of the writes
-pub record Left (s : List ℕ) (all : List OpSlot) (xs : List ℕ) (a : ℕ) (us : List ℕ) (i at : ℕ) : Type 0 where
-  pub most : i ≤ 64
-  pub long : length all ≡ 64
+pub record Left (n : ℕ) (s : List ℕ) (all : List OpSlot) (xs : List ℕ) (a : ℕ) (us : List ℕ) (i at : ℕ) : Type 0 where
+  pub most : i ≤ n
+  pub long : length all ≡ n
   pub fits : OpsFit s (drop i all)
   pub writing : Writing xs a (opsBytes s all) us at (opsBytes s (drop i all))
 
-pub left-begins : (s : List ℕ) (all : List OpSlot) (xs : List ℕ) (a : ℕ) → length all ≡ 64 → a + length (opsBytes s all) ≤ length xs → OpsFit s all → Left s all xs a xs 0 a
-left-begins s all xs a l h f = record { most = omega arith; long = l; fits = f; writing = writing-begins xs a (opsBytes s all) h }
+pub left-begins : (n : ℕ) (s : List ℕ) (all : List OpSlot) (xs : List ℕ) (a : ℕ) → length all ≡ n → a + length (opsBytes s all) ≤ length xs → OpsFit s all → Left n s all xs a xs 0 a
+left-begins n s all xs a l h f = record { most = omega arith; long = l; fits = f; writing = writing-begins xs a (opsBytes s all) h }
 
-module _ {s : List ℕ} {all : List OpSlot} {xs : List ℕ} {a : ℕ} {us : List ℕ} {i at : ℕ} (g : Left s all xs a us i at) where
-  module _ (d : OpSlot) (h : i < 64) where
+module _ {n : ℕ} {s : List ℕ} {all : List OpSlot} {xs : List ℕ} {a : ℕ} {us : List ℕ} {i at : ℕ} (g : Left n s all xs a us i at) where
+  module _ (d : OpSlot) (h : i < n) where
     left-here : drop i all ≡ getD all i d ∷ drop (i + 1) all
-    left-here = drop-cons all i d (omega (arith, g .long)) ∙ ap (λ (n : ℕ). getD all i d ∷ drop n all) (sym (add-one i))
+    left-here = drop-cons all i d (omega (arith, g .long)) ∙ ap (λ (k : ℕ). getD all i d ∷ drop k all) (sym (add-one i))
 
     left-both : OpFits s ((getD all i d) .op) × OpsFit s (drop (i + 1) all)
     left-both = subst (OpsFit s) left-here (g .fits)
@@ -93,20 +92,22 @@ module _ {s : List ℕ} {all : List OpSlot} {xs : List ℕ} {a : ℕ} {us : List
     unfolding opsBytes
     left-writing = writing-as (ap (opsBytes s) left-here) (g .writing)
 
-    pub left-room : (at + length (opBytes s ((getD all i d) .op)) ≤ length us) × OpFits s ((getD all i d) .op)
-    left-room =
-        let r = left-writing .room in
-        let l = length-append (opBytes s ((getD all i d) .op)) (opsBytes s (drop (i + 1) all)) in
-        (omega arith, left-both .0)
+    -- the write that comes next, as it was read
+    module _ {o : Op} (e : o ≡ (getD all i d) .op) where
+      pub left-room : (at + length (opBytes s o) ≤ length us) × OpFits s o
+      left-room =
+          let r = left-writing .room in
+          let l = length-append (opBytes s ((getD all i d) .op)) (opsBytes s (drop (i + 1) all)) in
+          rw e (omega arith, left-both .0)
 
-    pub left-step : {n : ℕ} {vs : List ℕ} → Wrote us at (opBytes s ((getD all i d) .op)) n vs → Left s all xs a vs (i + 1) n
-    left-step p = record {
-      most = omega arith;
-      long = g .long;
-      fits = left-both .1;
-      writing = writing-run (opBytes s ((getD all i d) .op)) (opsBytes s (drop (i + 1) all)) left-writing p;
-    }
+      pub left-step : {m : ℕ} {vs : List ℕ} → Wrote us at (opBytes s o) m vs → Left n s all xs a vs (i + 1) m
+      left-step p = record {
+        most = omega arith;
+        long = g .long;
+        fits = left-both .1;
+        writing = writing-run (opBytes s ((getD all i d) .op)) (opsBytes s (drop (i + 1) all)) left-writing (wrote-as (ap (opBytes s) e) p);
+      }
 
-  pub left-ends : 64 ≤ i → Wrote xs a (opsBytes s all) at us
+  pub left-ends : n ≤ i → Wrote xs a (opsBytes s all) at us
   unfolding opsBytes
   left-ends h = writing-done (writing-as (ap (opsBytes s) (drop-of-length-le all {i = i} (omega (arith, g .long)))) (g .writing))

@@ -1,9 +1,10 @@
 // The write pass: payloads and Syncs into a lent buffer that has room for them.
-ghost use mathlib.Core.List.{[]};
-ghost use Prim.Native.Nat.{_+_, _≤_};
-ghost use lib.ListN.{length};
-ghost use Rattle.lists.specs.Over.{Wrote};
-ghost use Rattle.writing.specs.Ops.{opBytes, opsBytes, OpFits, OpsFit};
+ghost use mathlib.Core.Path.{_≡_};
+ghost use mathlib.Core.List.{[], _∷_};
+ghost use Prim.Native.Nat.{_+_, _*_, _<_, _≤_};
+ghost use lib.ListN.{length, set, take};
+ghost use Rattle.lists.specs.Over.{over, Wrote};
+ghost use Rattle.writing.specs.Ops.{opBytes, opsBytes, OpFits, OpsFit, opAt, opsIn};
 
 // One write: nothing; a payload under a tag, its value a stretch of the pack; a Sync before `size` bytes of payloads.
 pub enum Op {
@@ -20,8 +21,53 @@ pub enum Op {
     },
 }
 
-pub struct OpSlot {
-    pub op: Op,
+fn put_four(ops: &mut [u32], at: usize, kind: u32, a: u32, b: u32, c: u32)
+    requires { ⌜ at + 4 ≤ length (now ops) ⌝ }
+    ensures { λ _. ⌜ now (ops .exit) ≡ over (now (ops .entry)) at (kind ∷ a ∷ b ∷ c ∷ []) ⌝ }
+{
+    ops[at] = kind;
+    ops[at + 1] = a;
+    ops[at + 2] = b;
+    ops[at + 3] = c;
+}
+
+// Puts a write into its place among all, where each takes four numbers: an array of numbers is lent, one of structs would be copied.
+pub fn put_op(ops: &mut [u32; 256], i: usize, op: Op)
+    requires { ⌜ i < 64 ⌝ }
+    ensures { λ _. ⌜ opsIn (now (ops .exit)) ≡ set (opsIn (now (ops .entry))) i (record { op = op }) ⌝ }
+{
+    match op {
+        Op::Skip => put_four(ops, 4 * i, 0, 0, 0, 0),
+        Op::Put { tag, start, len } => put_four(ops, 4 * i, 1, tag, start, len),
+        Op::Open {
+            size,
+            offset,
+            duration,
+        } => put_four(ops, 4 * i, 2, size, offset as u32, duration as u32),
+    }
+}
+
+fn op_at(ops: &[u32; 256], i: usize) -> Op
+    requires { ⌜ i < 64 ⌝ }
+    ensures { λ r. ⌜ r ≡ opAt (now (ops .entry)) (4 * i) ⌝ }
+{
+    let at = 4 * i;
+    let kind = ops[at];
+    if kind == 1 {
+        return Op::Put {
+            tag: ops[at + 1],
+            start: ops[at + 2],
+            len: ops[at + 3],
+        };
+    }
+    if kind == 2 {
+        return Op::Open {
+            size: ops[at + 1],
+            offset: (ops[at + 2] % 65536) as u16,
+            duration: (ops[at + 3] % 65536) as u16,
+        };
+    }
+    Op::Skip
 }
 
 // A payload: tag, shortest length, value.
@@ -62,16 +108,15 @@ fn write_op(p: &[u8], op: Op, out: &mut [u8], at: usize) -> usize
     }
 }
 
-// All writes, one after the other.
-pub fn write_ops(p: &[u8], ops: [OpSlot; 64], out: &mut [u8], at: usize) -> usize
-    requires { ⌜ (at + length (opsBytes (now p) ops) ≤ length (now out)) × OpsFit (now p) ops ⌝ }
-    ensures { λ r. ⌜ Wrote (now (out .entry)) at (opsBytes (now (p .entry)) ops) r (now (out .exit)) ⌝ }
+// The first `count` writes, one after the other.
+pub fn write_ops(p: &[u8], ops: &[u32; 256], count: usize, out: &mut [u8], at: usize) -> usize
+    requires { ⌜ (count ≤ 64) × (at + length (opsBytes (now p) (take count (opsIn (now ops)))) ≤ length (now out)) × OpsFit (now p) (take count (opsIn (now ops))) ⌝ }
+    ensures { λ r. ⌜ Wrote (now (out .entry)) at (opsBytes (now (p .entry)) (take count (opsIn (now (ops .entry))))) r (now (out .exit)) ⌝ }
 {
     let mut i: usize = 0;
     let mut next = at;
-    while i < 64 {
-        let slot = ops[i];
-        let op = slot.op;
+    while i < count {
+        let op = op_at(ops, i);
         next = write_op(p, op, out, next);
         i += 1;
     }

@@ -7,7 +7,7 @@ use lib.ListN.{take, length-append}
 use borrow.Author.Needs.{needs}
 use Rattle.lists.proofs.Over.{wrote-length}
 use Rattle.lists.proofs.Writing.{Writing, writing-run}
-use Rattle.writing.specs.Ops.{opsBytes}
+use Rattle.writing.specs.Ops.{opsBytes, opsIn}
 use Rattle.writing.proofs.Runs.{room-for, writing-last}
 use Rattle.framing.specs.Laid.{configAt}
 use Rattle.framing.proofs.Whole.{starts, starts-length, whole-begins, whole-ends}
@@ -20,7 +20,7 @@ abbrev config : tie.Start → List ℕ
 config b = configAt (b .args .p .now) (b .args .offset) (b .args .places) (take (b .args .count) (b .args .order)) (b .args .tags)
 
 abbrev writes : tie.Start → List ℕ
-writes b = opsBytes (b .args .p .now) (b .args .ops)
+writes b = opsBytes (b .args .p .now) (take (b .args .writes) (opsIn (b .args .ops .now)))
 
 begun : (b : tie.Start)
     → Writing (b .args .out .now) 0 (starts (b .args .size) ++ (config b ++ writes b)) (b .args .out .now) 0 (starts (b .args .size) ++ (config b ++ writes b))
@@ -40,7 +40,7 @@ write-ops-requires c κs =
     let k2 = c .before .before .before in
     let k1 = k2 .before .before .before .before in
     let b = k1 .before .before .before .before in
-    ((writing-run (config b) (writes b) (writing-run (starts (b .args .size)) (config b ++ writes b) (begun b) (k1 .write-start .ensures)) (k2 .write-config .ensures)) .room, b .pre .0 .writes)
+    (b .pre .2, (writing-run (config b) (writes b) (writing-run (starts (b .args .size)) (config b ++ writes b) (begun b) (k1 .write-start .ensures)) (k2 .write-config .ensures)) .room, b .pre .0 .writes)
 
 write-close-requires : tie.Need-write-close-requires
 write-close-requires c κs =

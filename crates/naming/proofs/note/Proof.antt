@@ -7,15 +7,20 @@ use mathlib.Core.Path.{_≡_, sym, ap, _∙_}
 use mathlib.Core.Logic.{inl, inr}
 use Prim.Native.Nat.{ℕ, _-_, _<_}
 use native.Mathlib.Omega.{arith}
+use mathlib.Core.List.{List}
 use lib.ListN.{length, take, getD}
 use lib.Seq.{length-take-le, getD-take}
 use borrow.Author.Needs.{needs}
 use borrow.Author.Tests.{not-true, not-false}
+use Rattle.pack.specs.declared.Item.{Item}
 use Rattle.pack.specs.declared.Slot.{Slot}
 use Rattle.pack.specs.Rows.{ItemFits}
 use Rattle.pack.proofs.Rows.{row-fits}
+use Rattle.slots.specs.Slots.{slotsIn}
+use Rattle.slots.proofs.Laws.{length-in, slot-in}
 use Rattle.sheet.specs.Judged.{asks}
-use Rattle.naming.specs.Marks.{markItem}
+use Rattle.naming.specs.Marks.{markItem, marksIn}
+use Rattle.naming.proofs.Cells.{marks-none}
 use Rattle.naming.proofs.Noting.{Noting, noting-begins, noting-here, noting-few, noting-step, noting-ends, note-gone, note-outside, note-inside, note-seen, note-new}
 use Rattle.naming.proofs.Naming.{mark-fits}
 use Rattle.naming.proofs.note.Statement.{statement}
@@ -25,82 +30,73 @@ abbrev none : Slot
 none = record { item = I.Single (record { name = N.Label 0; start = 0; «value_start» = 0; «value_len» = 0 }) }
 
 abbrev Inv-loop : tie.InvT-loop
-Inv-loop s asked count flags items short marks₀ order₀ labels₀ taken₀ seen₀ i₀ marks order labels taken seen i = Noting (λ (x : Slot). markItem flags (asks s asked) (x .item)) (take count items) marks order labels taken seen i
+Inv-loop s asked flags slots count marks₀ order₀ taken₀ short seen₀ labels₀ i₀ marks order taken seen labels i = Noting (λ (x : Slot). markItem flags (asks s asked) (x .item)) (take count (slotsIn slots)) (marksIn marks) order labels taken seen i
 
 abbrev μ-loop : tie.MeasureT-loop
-μ-loop s asked count flags items short marks₀ order₀ labels₀ taken₀ seen₀ i₀ marks order labels taken seen i = count - i
+μ-loop s asked flags slots count marks₀ order₀ taken₀ short seen₀ labels₀ i₀ marks order taken seen labels i = count - i
 
 short-numbers-requires : tie.Need-short-numbers-requires Inv-loop μ-loop
 short-numbers-requires c κs = search needs
 
 loop-holds : tie.Need-loop-holds Inv-loop μ-loop
-loop-holds c = noting-begins _ _
+loop-holds c =
+    let p = c .before .before .pre in
+    noting-begins _ _ (ap marksIn (p .3) ∙ marks-none) (p .4) (p .5)
 
--- where the call began, and where the row that was marked is one of the loop's
+-- where the call began, and the turn of the loop in which a mark was put
 abbrev start : tie.In-loop Inv-loop μ-loop → tie.Start Inv-loop μ-loop
 start c = c .before .before .before .before
 
-abbrev row : tie.After-mark-item Inv-loop μ-loop → tie.In-loop Inv-loop μ-loop
-row m = m .before .before .before .before
+abbrev turn : tie.After-put-mark Inv-loop μ-loop → tie.In-loop Inv-loop μ-loop
+turn m = m .before .before .before .before .before
 
-long : (c : tie.In-loop Inv-loop μ-loop)
-    → length (take ((start c) .args .count) ((start c) .args .t4)) ≡ (start c) .args .count
-long c =
-    let b = start c in
-    let l : length (b .args .t4) ≡ 64 = search needs in
-    let p = b .pre .0 in
-    length-take-le _ _ (omega arith)
+abbrev rows : tie.In-loop Inv-loop μ-loop → List Slot
+rows c = take ((start c) .args .count) (slotsIn ((start c) .args .slots .now))
 
-here : (c : tie.In-loop Inv-loop μ-loop)
-    → getD ((start c) .args .t4) (c .before .loop .i) none
-    ≡ getD (take ((start c) .args .count) ((start c) .args .t4)) (c .before .loop .i) none
+long : (c : tie.In-loop Inv-loop μ-loop) → length (rows c) ≡ (start c) .args .count
+long c = let l = length-in ((start c) .args .slots .now) in let p = (start c) .pre .0 in length-take-le _ _ (omega arith)
+
+-- the row is one of those
+inside : (c : tie.In-loop Inv-loop μ-loop) → c .before .loop .i < length (rows c)
+inside c = let l = long c in omega arith
+
+room : (c : tie.In-loop Inv-loop μ-loop) → c .before .loop .i < 64
+room c = let p = (start c) .pre .0 in omega arith
+
+here : (c : tie.After-item Inv-loop μ-loop) → c .item .result ≡ (getD (rows (c .before)) (c .before .before .loop .i) none) .item
 here c =
-    let b = start c in
-    sym (getD-take (b .args .count) (b .args .t4) (c .before .loop .i) none (omega arith))
+    let r = c .before in
+    let b = start r in
+    c .item .ensures
+    ∙ ap (λ (x : Slot). x .item)
+    (sym (getD-take (b .args .count) (slotsIn (b .args .slots .now)) (r .before .loop .i) none (r .loop-test .taken) ∙ slot-in (b .args .slots .now) (r .before .loop .i) none (room r)))
 
-fits : (c : tie.In-loop Inv-loop μ-loop) → ItemFits ((getD ((start c) .args .t4) (c .before .loop .i) none) .item)
-fits c =
-    let l = long c in
-    let b = start c in
-    let j : c .before .loop .i < length (take (b .args .count) (b .args .t4)) = omega arith in
-    rw (here c) (row-fits (take (b .args .count) (b .args .t4)) _ none (b .pre .1) j)
+fits : (c : tie.After-item Inv-loop μ-loop) → ItemFits (c .item .result)
+fits c = rw (here c) (row-fits (rows (c .before)) _ none ((start (c .before)) .pre .1) (inside (c .before)))
 
--- the row is one of those, and its mark is what was asked for
-inside : (m : tie.After-mark-item Inv-loop μ-loop)
-    → (row m) .before .loop .i < length (take ((start (row m)) .args .count) ((start (row m)) .args .t4))
-inside m = let l = long (row m) in omega arith
-
-room : (m : tie.After-mark-item Inv-loop μ-loop) → (row m) .before .loop .i < 64
-room m = let p = (start (row m)) .pre .0 in omega arith
-
-value : (m : tie.After-mark-item Inv-loop μ-loop)
-    → m .mark-item .result
-    ≡ markItem ((start (row m)) .args .t3)
-    (asks ((start (row m)) .args .s .now) ((start (row m)) .args .asked))
-    ((getD (take ((start (row m)) .args .count) ((start (row m)) .args .t4)) ((row m) .before .loop .i) none) .item)
+-- its mark is what was asked for, and is put
+value : (m : tie.After-put-mark Inv-loop μ-loop)
+    → m .before .before .mark-item .result
+    ≡ markItem ((start (turn m)) .args .flags .now)
+    (asks ((start (turn m)) .args .s .now) ((start (turn m)) .args .asked))
+    ((getD (rows (turn m)) ((turn m) .before .loop .i) none) .item)
 value m =
-    let b = start (row m) in
-    m .mark-item .ensures ∙ ap (λ (x : Slot). markItem (b .args .t3) (asks (b .args .s .now) (b .args .asked)) (x .item)) (here (row m))
+    let b = start (turn m) in
+    m .before .before .mark-item .ensures ∙ ap (λ (x : Item). markItem (b .args .flags .now) (asks (b .args .s .now) (b .args .asked)) x) (here (m .before .before .before .before))
 
-low : (m : tie.After-mark-item Inv-loop μ-loop) (k : ℕ) → m .mark-item .result ≡ M.Label k → k < 32
-low m k e = mark-fits _ _ _ k (fits (row m)) (sym (m .mark-item .ensures) ∙ e)
+low : (m : tie.After-put-mark Inv-loop μ-loop) (k : ℕ) → m .before .before .mark-item .result ≡ M.Label k → k < 32
+low m k e = mark-fits _ _ _ k (fits (m .before .before .before .before)) (sym (m .before .before .mark-item .ensures) ∙ e)
 
-mul-slot : tie.Need-mul-slot Inv-loop μ-loop
-mul-slot c = let p = (start c) .pre .0 in omega arith
-
-array-copy-out-slot : tie.Need-array-copy-out-slot Inv-loop μ-loop
-array-copy-out-slot c = let p = (start c) .pre .0 in omega arith
+item-requires : tie.Need-item-requires Inv-loop μ-loop
+item-requires c κs = room c
 
 mark-item-requires : tie.Need-mark-item-requires Inv-loop μ-loop
 mark-item-requires c κs =
-    let r = c .before .before .before in
-    (fits r, (start r) .pre .2, r .before .before .short-numbers .ensures)
+    let r = c .before .before in
+    (fits (c .before), (start r) .pre .2, r .before .before .short-numbers .ensures)
 
-mul-marks : tie.Need-mul-marks Inv-loop μ-loop
-mul-marks c = let p = (start (row c)) .pre .0 in omega arith
-
-array-set-from-marks : tie.Need-array-set-from-marks Inv-loop μ-loop
-array-set-from-marks c = let p = (start (row c)) .pre .0 in omega arith
+put-mark-requires : tie.Need-put-mark-requires Inv-loop μ-loop
+put-mark-requires c κs = room (c .before .before .before .before)
 
 add-i : tie.Need-add-i Inv-loop μ-loop
 add-i c = omega arith
@@ -114,8 +110,9 @@ loop-less c = omega arith
 loop-again : tie.Need-loop-again Inv-loop μ-loop
 loop-again c =
     let m = c .before .before in
-    let l = (row m) .before .loop in
-    noting-step none _ (inside m) (value m) (note-gone (l .inv .notes) (l .i) (noting-here (l .inv)) (room m) _ (c .enum-told .given .1))
+    let l = (turn m) .before .loop in
+    noting-step none _ (inside (turn m)) (value m) (m .put-mark .ensures)
+    (note-gone (l .inv .notes) (l .i) (noting-here (l .inv)) (room (turn m)) _ (c .enum-told .given .1))
 
 enum-known-mark : tie.Need-enum-known-mark Inv-loop μ-loop
 enum-known-mark c = search needs
@@ -126,8 +123,8 @@ cast-taken c = search needs
 sub-taken : tie.Need-sub-taken Inv-loop μ-loop
 sub-taken c = c .before .if1 .taken
 
-array-write-taken : tie.Need-array-write-taken Inv-loop μ-loop
-array-write-taken c = let a = c .before .if1 .taken in let b = c .if2 .taken in omega arith
+element-write-taken : tie.Need-element-write-taken Inv-loop μ-loop
+element-write-taken c = let a = c .before .if1 .taken in let b = c .if2 .taken in omega arith
 
 loop-less-2 : tie.Need-loop-less-2 Inv-loop μ-loop
 loop-less-2 c = omega arith
@@ -135,9 +132,9 @@ loop-less-2 c = omega arith
 loop-again-2 : tie.Need-loop-again-2 Inv-loop μ-loop
 loop-again-2 c =
     let m = c .before .before .before .before .before in
-    let l = (row m) .before .loop in
-    noting-step none _ (inside m) (value m)
-    (note-inside (l .inv .notes) (l .i) (noting-here (l .inv)) (room m) _ _ (c .before .before .before .mark .given .1) (c .before .if1 .taken) (c .if2 .taken))
+    let l = (turn m) .before .loop in
+    noting-step none _ (inside (turn m)) (value m) (m .put-mark .ensures)
+    (note-inside (l .inv .notes) (l .i) (noting-here (l .inv)) (room (turn m)) _ _ (c .before .before .before .mark .given .1) (c .before .if1 .taken) (c .if2 .taken))
 
 loop-less-3 : tie.Need-loop-less-3 Inv-loop μ-loop
 loop-less-3 c = omega arith
@@ -145,9 +142,9 @@ loop-less-3 c = omega arith
 loop-again-3 : tie.Need-loop-again-3 Inv-loop μ-loop
 loop-again-3 c =
     let m = c .before .before .before .before .before in
-    let l = (row m) .before .loop in
-    noting-step none _ (inside m) (value m)
-    (note-outside (l .inv .notes) (l .i) (noting-here (l .inv)) (room m) _ _ (c .before .before .before .mark .given .1) (inr (c .if2 .left)))
+    let l = (turn m) .before .loop in
+    noting-step none _ (inside (turn m)) (value m) (m .put-mark .ensures)
+    (note-outside (l .inv .notes) (l .i) (noting-here (l .inv)) (room (turn m)) _ _ (c .before .before .before .mark .given .1) (inr (c .if2 .left)))
 
 loop-less-4 : tie.Need-loop-less-4 Inv-loop μ-loop
 loop-less-4 c = omega arith
@@ -155,9 +152,9 @@ loop-less-4 c = omega arith
 loop-again-4 : tie.Need-loop-again-4 Inv-loop μ-loop
 loop-again-4 c =
     let m = c .before .before .before .before in
-    let l = (row m) .before .loop in
-    noting-step none _ (inside m) (value m)
-    (note-outside (l .inv .notes) (l .i) (noting-here (l .inv)) (room m) _ _ (c .before .before .mark .given .1) (inl (c .if1 .left)))
+    let l = (turn m) .before .loop in
+    noting-step none _ (inside (turn m)) (value m) (m .put-mark .ensures)
+    (note-outside (l .inv .notes) (l .i) (noting-here (l .inv)) (room (turn m)) _ _ (c .before .before .mark .given .1) (inl (c .if1 .left)))
 
 enum-known-mark-2 : tie.Need-enum-known-mark-2 Inv-loop μ-loop
 enum-known-mark-2 c = search needs
@@ -175,13 +172,13 @@ array-write-seen : tie.Need-array-write-seen Inv-loop μ-loop
 array-write-seen c = low (c .before .before .before .before) _ (c .before .before .mark2 .given .1)
 
 mul-order : tie.Need-mul-order Inv-loop μ-loop
-mul-order c = let m = c .before .before .before .before in let f = noting-few ((row m) .before .loop .inv) in let r = room m in omega arith
+mul-order c = let m = c .before .before .before .before in let f = noting-few ((turn m) .before .loop .inv) in let r = room (turn m) in omega arith
 
-array-write-order : tie.Need-array-write-order Inv-loop μ-loop
-array-write-order c = let m = c .before .before .before .before in let f = noting-few ((row m) .before .loop .inv) in let r = room m in omega arith
+element-write-order : tie.Need-element-write-order Inv-loop μ-loop
+element-write-order c = let m = c .before .before .before .before in let f = noting-few ((turn m) .before .loop .inv) in let r = room (turn m) in omega arith
 
 add-labels : tie.Need-add-labels Inv-loop μ-loop
-add-labels c = let m = c .before .before .before .before in let f = noting-few ((row m) .before .loop .inv) in let r = room m in omega arith
+add-labels c = let m = c .before .before .before .before in let f = noting-few ((turn m) .before .loop .inv) in let r = room (turn m) in omega arith
 
 loop-less-5 : tie.Need-loop-less-5 Inv-loop μ-loop
 loop-less-5 c = omega arith
@@ -189,9 +186,9 @@ loop-less-5 c = omega arith
 loop-again-5 : tie.Need-loop-again-5 Inv-loop μ-loop
 loop-again-5 c =
     let m = c .before .before .before .before in
-    let l = (row m) .before .loop in
-    noting-step none _ (inside m) (value m)
-    (note-new (l .inv .notes) (l .i) (noting-here (l .inv)) (room m) _ _ (c .before .before .mark2 .given .1) (low m _ (c .before .before .mark2 .given .1)) (not-true _ (c .if3 .taken)))
+    let l = (turn m) .before .loop in
+    noting-step none _ (inside (turn m)) (value m) (m .put-mark .ensures)
+    (note-new (l .inv .notes) (l .i) (noting-here (l .inv)) (room (turn m)) _ _ (c .before .before .mark2 .given .1) (low m _ (c .before .before .mark2 .given .1)) (not-true _ (c .if3 .taken)))
 
 loop-less-6 : tie.Need-loop-less-6 Inv-loop μ-loop
 loop-less-6 c = omega arith
@@ -199,16 +196,16 @@ loop-less-6 c = omega arith
 loop-again-6 : tie.Need-loop-again-6 Inv-loop μ-loop
 loop-again-6 c =
     let m = c .before .before .before .before in
-    let l = (row m) .before .loop in
-    noting-step none _ (inside m) (value m)
-    (note-seen (l .inv .notes) (l .i) (noting-here (l .inv)) (room m) _ _ (c .before .before .mark2 .given .1) (low m _ (c .before .before .mark2 .given .1)) (not-false _ (c .if3 .left)))
+    let l = (turn m) .before .loop in
+    noting-step none _ (inside (turn m)) (value m) (m .put-mark .ensures)
+    (note-seen (l .inv .notes) (l .i) (noting-here (l .inv)) (room (turn m)) _ _ (c .before .before .mark2 .given .1) (low m _ (c .before .before .mark2 .given .1)) (not-false _ (c .if3 .left)))
 
 returns : tie.Need-returns Inv-loop μ-loop
 returns c =
     let b = c .before .before .before .before in
-    let l : length (b .args .t4) ≡ 64 = search needs in
+    let l = length-in (b .args .slots .now) in
     let p = b .pre .0 in
-    let n : length (take (b .args .count) (b .args .t4)) ≡ b .args .count = length-take-le _ _ (omega arith) in
+    let n : length (take (b .args .count) (slotsIn (b .args .slots .now))) ≡ b .args .count = length-take-le _ _ (omega arith) in
     noting-ends (c .before .loop .inv) (omega arith)
 
 pub note-spec : {M : Type 1} → statement M
@@ -219,11 +216,9 @@ note-spec =
     μ-loop
     short-numbers-requires
     loop-holds
-    mul-slot
-    array-copy-out-slot
+    item-requires
     mark-item-requires
-    mul-marks
-    array-set-from-marks
+    put-mark-requires
     add-i
     enum-told
     loop-less
@@ -231,7 +226,7 @@ note-spec =
     enum-known-mark
     cast-taken
     sub-taken
-    array-write-taken
+    element-write-taken
     loop-less-2
     loop-again-2
     loop-less-3
@@ -244,7 +239,7 @@ note-spec =
     cast-seen
     array-write-seen
     mul-order
-    array-write-order
+    element-write-order
     add-labels
     loop-less-5
     loop-again-5

@@ -1,111 +1,106 @@
 -- `planning::plan_rows` meets its contract. The loop keeps the plan of the rows that it has passed.
 -- Assumes nothing.
-use mathlib.Core.Path.{_≡_, sym, ap₂, _∙_}
+use mathlib.Core.Path.{_≡_, sym, ap, ap₂, _∙_}
 use Prim.Native.Nat.{ℕ, _-_, _<_}
 use native.Mathlib.Omega.{arith}
 use lib.ListN.{length, take, getD}
 use lib.Seq.{length-take-le, getD-take}
-use borrow.Author.Needs.{needs}
-use Rattle.pack.specs.declared.Name.the-variants as N
-use Rattle.pack.specs.declared.Item.the-variants as I
+use Rattle.pack.specs.Reading.{blank}
+use Rattle.pack.specs.declared.Item.{Item}
 use Rattle.pack.specs.declared.Slot.{Slot}
+use Rattle.slots.specs.Slots.{slotsIn}
+use Rattle.slots.proofs.Laws.{length-in, slot-in}
 use Rattle.naming.specs.declared.Mark.the-variants as M
-use Rattle.naming.specs.declared.Marked.{Marked}
-use Rattle.planning.specs.Planned.{stepOf, ItemSmall}
+use Rattle.naming.specs.Marks.{Marked, marksIn}
+use Rattle.naming.proofs.Cells.{length-marks, mark-in}
+use Rattle.writing.specs.Ops.{opsIn}
+use Rattle.writing.proofs.Cells.{ops-none}
+use Rattle.planning.specs.Planned.{tagOf, stepOf}
 use Rattle.planning.proofs.Going.{row-small, mark-small, Going, going-begins, going-ends, going-on}
 use Rattle.planning.proofs.plan_rows.Statement.{statement}
 use Rattle.planning.proofs.plan_rows.Tie as tie
-
-abbrev row : Slot
-row = record { item = I.Single (record { name = N.Label 0; start = 0; «value_start» = 0; «value_len» = 0 }) }
 
 abbrev gone : Marked
 gone = record { mark = M.Gone }
 
 abbrev Inv-loop : tie.InvT-loop
-Inv-loop count items marks index ops₀ inner₀ size₀ i₀ ops inner size i = Going index (take count items) marks ops inner size i
+Inv-loop slots marks index count ops₀ inner₀ size₀ i₀ ops inner size i = Going index (take count (slotsIn slots)) (marksIn marks) (opsIn ops) inner size i
 
 abbrev μ-loop : tie.MeasureT-loop
-μ-loop count items marks index ops₀ inner₀ size₀ i₀ ops inner size i = i
+μ-loop slots marks index count ops₀ inner₀ size₀ i₀ ops inner size i = i
 
-counted : (b : tie.Start Inv-loop μ-loop) → (length (take (b .args .count) (b .args .t1)) ≡ b .args .count) × (length (b .args .t2) ≡ 64)
-counted b =
-    let l : length (b .args .t1) ≡ 64 = search needs in
-    let m : length (b .args .t2) ≡ 64 = search needs in
-    let h = b .pre .0 in
-    (length-take-le (b .args .count) (b .args .t1) (omega arith), m)
+counted : (b : tie.Start Inv-loop μ-loop) → length (take (b .args .count) (slotsIn (b .args .slots .now))) ≡ b .args .count
+counted b = length-take-le (b .args .count) (slotsIn (b .args .slots .now)) (omega (arith, length-in (b .args .slots .now), b .pre .0))
 
-loop-holds : tie.Need-loop-holds Inv-loop μ-loop
-loop-holds c = let n = counted c in let h = c .pre .0 in going-begins _ _ _ _ (sym (n .0)) (omega arith) (n .1)
+-- where the call began
+abbrev start : tie.In-loop Inv-loop μ-loop → tie.Start Inv-loop μ-loop
+start d = d .before .before
 
-inside : (d : tie.In-loop Inv-loop μ-loop) → (d .before .loop .i - 1 < d .before .before .args .count) × (d .before .loop .i - 1 < 64)
+inside : (d : tie.In-loop Inv-loop μ-loop) → (d .before .loop .i - 1 < start d .args .count) × (d .before .loop .i - 1 < 64)
 inside d =
-    let b = d .before .before in
-    let n = counted b in
-    let g = d .before .loop .inv in
-    let m = g .most in
-    let h = b .pre .0 in
+    let n = counted (start d) in
+    let m = d .before .loop .inv .most in
+    let h = start d .pre .0 in
     (omega arith, omega arith)
 
-here : (d : tie.In-loop Inv-loop μ-loop)
-    → getD (d .before .before .args .t1) (d .before .loop .i - 1) row
-    ≡ getD (take (d .before .before .args .count) (d .before .before .args .t1)) (d .before .loop .i - 1) row
-here d = let b = d .before .before in let i = inside d in sym (getD-take (b .args .count) (b .args .t1) (d .before .loop .i - 1) row (i .0))
-
-fits : (d : tie.In-loop Inv-loop μ-loop) → ItemSmall ((getD (d .before .before .args .t1) (d .before .loop .i - 1) row) .item)
-fits d =
-    let b = d .before .before in
+-- the item and the mark that are read stand in the row
+item-is : (k : tie.After-item Inv-loop μ-loop)
+    → let d = k .before in k .item .result ≡ getD (take (start d .args .count) (slotsIn (start d .args .slots .now))) (d .before .loop .i - 1) blank .item
+item-is k =
+    let d = k .before in
+    let a = start d .args in
     let i = inside d in
-    let n = counted b in
-    let j : d .before .loop .i - 1 < length (take (b .args .count) (b .args .t1)) = omega arith in
-    rw (here d) (row-small (take (b .args .count) (b .args .t1)) _ row (b .pre .1) j)
+    k .item .ensures
+    ∙ sym (ap (λ (x : Slot). x .item) (getD-take (a .count) (slotsIn (a .slots .now)) (d .before .loop .i - 1) blank (i .0) ∙ slot-in (a .slots .now) (d .before .loop .i - 1) blank (i .1)))
+
+mark-is : (m : tie.After-mark-in Inv-loop μ-loop) → let d = m .before .before in m .mark-in .result ≡ getD (marksIn (start d .args .marks .now)) (d .before .loop .i - 1) gone .mark
+mark-is m =
+    let d = m .before .before in
+    let i = inside d in
+    m .mark-in .ensures ∙ sym (ap (λ (x : Marked). x .mark) (mark-in (start d .args .marks .now) (d .before .loop .i - 1) gone (i .1)))
+
+loop-holds : tie.Need-loop-holds Inv-loop μ-loop
+loop-holds c =
+    let n = counted c in
+    let h = c .pre .0 in
+    rw (c .pre .3, ops-none) (going-begins _ _ _ _ (sym n) (omega arith) (length-marks _))
 
 sub-i : tie.Need-sub-i Inv-loop μ-loop
 sub-i c = omega arith
 
-mul-slot : tie.Need-mul-slot Inv-loop μ-loop
-mul-slot c = let i = inside c in omega arith
+item-requires : tie.Need-item-requires Inv-loop μ-loop
+item-requires c κs = inside c .1
 
-array-copy-out-slot : tie.Need-array-copy-out-slot Inv-loop μ-loop
-array-copy-out-slot c = (inside c) .1
-
-mul-marked : tie.Need-mul-marked Inv-loop μ-loop
-mul-marked c = let i = inside (c .before) in omega arith
-
-array-copy-out-marked : tie.Need-array-copy-out-marked Inv-loop μ-loop
-array-copy-out-marked c = (inside (c .before)) .1
+mark-in-requires : tie.Need-mark-in-requires Inv-loop μ-loop
+mark-in-requires c κs = inside (c .before) .1
 
 tag-of-requires : tie.Need-tag-of-requires Inv-loop μ-loop
 tag-of-requires c κs =
-    let d = c .before .before .before in
-    let n = counted (d .before .before) in
-    let i = inside d in
-    let j : d .before .loop .i - 1 < length (d .before .before .args .t2) = omega arith in
-    mark-small (d .before .before .args .t2) _ gone (d .before .before .pre .2) j
+    let d = c .before .before in
+    let l = length-marks (start d .args .marks .now) in
+    rw (mark-is c) (mark-small (marksIn (start d .args .marks .now)) _ gone (start d .pre .2) (omega (arith, inside d .1)))
 
 plan-row-requires : tie.Need-plan-row-requires Inv-loop μ-loop
 plan-row-requires c κs =
-    let d = c .before .before .before .before in
-    let n = counted (d .before .before) in
+    let k = c .before .before in
+    let d = k .before in
+    let n = counted (start d) in
     let g = d .before .loop .inv in
     let x = g .bound in
     let y = g .small in
     let z = g .few in
-    (fits d, omega arith)
+    (rw (item-is k) (row-small (take (start d .args .count) (slotsIn (start d .args .slots .now))) _ blank (start d .pre .1) (omega (arith, inside d .0))), omega arith)
 
-mul-ops : tie.Need-mul-ops Inv-loop μ-loop
-mul-ops c = let i = inside (c .before .before .before .before .before) in omega arith
-
-array-set-from-ops : tie.Need-array-set-from-ops Inv-loop μ-loop
-array-set-from-ops c = (inside (c .before .before .before .before .before)) .1
+put-op-requires : tie.Need-put-op-requires Inv-loop μ-loop
+put-op-requires c κs = inside (c .before .before .before .before .before) .1
 
 add-size : tie.Need-add-size Inv-loop μ-loop
 add-size c =
-    let d = c .before .before .before .before .before .before in
-    let g = d .before .loop .inv in
+    let k = c .before .before .before in
+    let g = k .before .before .before .before .before .loop .inv in
     let x = g .bound in
     let z = g .few in
-    let q = c .before .plan-row .ensures .1 in
+    let q = k .plan-row .ensures .1 in
     omega arith
 
 loop-less : tie.Need-loop-less Inv-loop μ-loop
@@ -113,15 +108,21 @@ loop-less c = omega arith
 
 loop-again : tie.Need-loop-again Inv-loop μ-loop
 loop-again c =
-    let k = c .before in
-    let d = k .before .before .before .before .before in
-    let b = d .before .before in
+    let k = c .before .before .before in
+    let t = k .before in
+    let m = t .before in
+    let d = m .before .before in
     let e = k .plan-row .ensures in
-    going-on (d .before .loop .inv) row gone (d .loop-test .taken) _
-    (e .0 ∙ ap₂ (λ (x : Slot) (t : ℕ). stepOf (x .item) t (d .before .loop .inner)) (here d) (k .before .tag-of .ensures), e .1, e .2)
+    going-on (d .before .loop .inv) blank gone (d .loop-test .taken) _ _ (c .before .put-op .ensures) (
+      e .0
+          ∙ ap₂ (λ (x : Item) (u : ℕ). stepOf x u (d .before .loop .inner)) (item-is (m .before))
+          (t .tag-of .ensures ∙ ap (tagOf (start d .args .index .now)) (mark-is m)),
+      e .1,
+      e .2,
+    )
 
 returns : tie.Need-returns Inv-loop μ-loop
-returns c = going-ends (c .before .loop .inv) (c .loop-test .left)
+returns c = going-ends (c .before .loop .inv) _ (sym (counted (c .before .before))) (c .loop-test .left)
 
 pub plan-rows-spec : {M : Type 1} → statement M
 plan-rows-spec =
@@ -131,14 +132,11 @@ plan-rows-spec =
     μ-loop
     loop-holds
     sub-i
-    mul-slot
-    array-copy-out-slot
-    mul-marked
-    array-copy-out-marked
+    item-requires
+    mark-in-requires
     tag-of-requires
     plan-row-requires
-    mul-ops
-    array-set-from-ops
+    put-op-requires
     add-size
     loop-less
     loop-again

@@ -1,4 +1,4 @@
--- `reader::read_items` meets its contract. Both loops keep what is left, and that the array holds the items so far (proofs/Listing).
+-- `reader::read_items` meets its contract. Both loops keep what is left, and that the slots hold the items so far (proofs/Listing).
 -- Assumes nothing.
 use mathlib.Core.Path.{_≡_, sym, ap, _∙_}
 use native.Mathlib.Omega.{arith}
@@ -12,7 +12,9 @@ use Rattle.pack.specs.declared.Step.the-variants as S
 use Rattle.pack.proofs.Payloads.{plain-fits, open-fits, close-ends, inner-within}
 use Rattle.checker.proofs.Inside.{inside-stops}
 use Rattle.checker.proofs.Coming.{coming-bad, coming-crc, coming-refused, inside-long, inside-part}
-use Rattle.reader.proofs.Listing.{filling-begins, filling-on, listing-begins, shown-refused, listing-ends, now-coming, listing-closed, listing-plain, listing-none, listing-sync}
+use Rattle.reader.proofs.Listing.{filling-begins, filling-on, listing-begins, tells-refused, tells-done, now-coming, listing-closed, listing-plain, listing-none, listing-sync}
+use Rattle.slots.specs.Slots.{slotsIn}
+use Rattle.slots.proofs.Laws.{slots-none}
 use Prim.Native.Nat.{ℕ, _+_, _-_, _<_, _≤_}
 use mathlib.Core.List.{List}
 use lib.ListN.{length, take, drop}
@@ -21,17 +23,17 @@ use Rattle.reader.proofs.read_items.Statement.{statement}
 use Rattle.reader.proofs.read_items.Tie as tie
 
 abbrev Inv-loop2 : tie.InvT-loop2
-Inv-loop2 s from offset mapped tags places known items₀ crc n at value-start value-len base end k₀ j₀ items k j =
-    Filling (take (value-len - 4) (drop (value-start + 4) s)) (take mapped tags) (value-start + 4) value-len (n + 1) items₀ items k j
+Inv-loop2 s from offset mapped tags known slots₀ crc n at value-start value-len base end k₀ j₀ slots k j =
+    Filling (take (value-len - 4) (drop (value-start + 4) s)) (take mapped tags) (value-start + 4) value-len (n + 1) (slotsIn slots₀) (slotsIn slots) k j
 
 abbrev μ-loop2 : tie.MeasureT-loop2
-μ-loop2 s from offset mapped tags places known items₀ crc n at value-start value-len base end k₀ j₀ items k j = value-len - j
+μ-loop2 s from offset mapped tags known slots₀ crc n at value-start value-len base end k₀ j₀ slots k j = value-len - j
 
 abbrev Inv-loop : tie.InvT-loop
-Inv-loop s from offset mapped tags places known items₀ crc₀ n₀ at₀ items crc n at = Listing s (take mapped tags) from items n at crc
+Inv-loop s from offset mapped tags known slots₀ crc₀ n₀ at₀ slots crc n at = Listing s (take mapped tags) from (slotsIn slots) n at crc
 
 abbrev μ-loop : tie.MeasureT-loop
-μ-loop s from offset mapped tags places known items₀ crc₀ n₀ at₀ items crc n at = length s - at
+μ-loop s from offset mapped tags known slots₀ crc₀ n₀ at₀ slots crc n at = length s - at
 
 -- in each arm, what stands there
 abbrev Plain-at : tie.After-step3 Inv-loop2 μ-loop2 Inv-loop μ-loop → Type 0
@@ -80,7 +82,7 @@ whole : (c : tie.After-found2 Inv-loop2 μ-loop2 Inv-loop μ-loop)
 whole c = inner (c .before .before) ∙ c .found2 .given .1
 
 loop-holds : tie.Need-loop-holds Inv-loop2 μ-loop2 Inv-loop μ-loop
-loop-holds c = listing-begins _ _ _
+loop-holds c = listing-begins _ _ _ (ap slotsIn (c .before .pre .3) ∙ slots-none)
 
 item-at-requires : tie.Need-item-at-requires Inv-loop2 μ-loop2 Inv-loop μ-loop
 item-at-requires c κs = search needs
@@ -88,14 +90,14 @@ item-at-requires c κs = search needs
 enum-known-step : tie.Need-enum-known-step Inv-loop2 μ-loop2 Inv-loop μ-loop
 enum-known-step c = search needs
 
-refused-requires : tie.Need-refused-requires Inv-loop2 μ-loop2 Inv-loop μ-loop
-refused-requires c κs = search needs
+stopped-requires : tie.Need-stopped-requires Inv-loop2 μ-loop2 Inv-loop μ-loop
+stopped-requires c κs = search needs
 
 returns : tie.Need-returns Inv-loop2 μ-loop2 Inv-loop μ-loop
 returns c =
     let f = c .before .before in
     let h = f .before .before .before .loop-test .taken in
-    shown-refused _ _ _ _ (coming-bad (now-coming (f .before .before .before .before .loop .inv) h) h (sym (f .before .before .item-at .ensures) ∙ f .step .given .1)) (c .refused .ensures)
+    tells-refused _ _ _ _ (coming-bad (now-coming (f .before .before .before .before .loop .inv) h) h (sym (f .before .before .item-at .ensures) ∙ f .step .given .1)) (c .stopped .ensures)
 
 enum-known-step-2 : tie.Need-enum-known-step-2 Inv-loop2 μ-loop2 Inv-loop μ-loop
 enum-known-step-2 c = search needs
@@ -103,14 +105,14 @@ enum-known-step-2 c = search needs
 crc-good-requires : tie.Need-crc-good-requires Inv-loop2 μ-loop2 Inv-loop μ-loop
 crc-good-requires c κs = omega (arith, close-ends _ _ _ _ (closes (c .before)))
 
-refused-requires-2 : tie.Need-refused-requires-2 Inv-loop2 μ-loop2 Inv-loop μ-loop
-refused-requires-2 c κs = search needs
+stopped-requires-2 : tie.Need-stopped-requires-2 Inv-loop2 μ-loop2 Inv-loop μ-loop
+stopped-requires-2 c κs = search needs
 
 returns-2 : tie.Need-returns-2 Inv-loop2 μ-loop2 Inv-loop μ-loop
 returns-2 c =
     let f = c .before .before .before .before in
     let h = f .before .before .before .loop-test .taken in
-    shown-refused _ _ _ _ (coming-crc (now-coming (f .before .before .before .before .loop .inv) h) h (closes f) (sym (c .before .before .crc-good .ensures) ∙ not-true _ (c .before .if1 .taken))) (c .refused2 .ensures)
+    tells-refused _ _ _ _ (coming-crc (now-coming (f .before .before .before .before .loop .inv) h) h (closes f) (sym (c .before .before .crc-good .ensures) ∙ not-true _ (c .before .if1 .taken))) (c .stopped2 .ensures)
 
 loop-less : tie.Need-loop-less Inv-loop2 μ-loop2 Inv-loop μ-loop
 loop-less c = omega (arith, c .before .before .before .before .before .before .loop-test .taken)
@@ -128,25 +130,22 @@ payload-requires c κs =
     let f = plain-fits _ _ _ _ _ _ (plain (c .before)) in
     (c .before .before .before .before .before .before .before .pre .1, c .before .before .before .before .before .before .before .pre .2, omega (arith, f .later, f .inside, c .before .before .before .before .before .before .before .pre .0))
 
-mul-items : tie.Need-mul-items Inv-loop2 μ-loop2 Inv-loop μ-loop
-mul-items c = let f = plain-fits _ _ _ _ _ _ (plain (c .before .before)) in omega (arith, f .later, f .inside, f .room)
-
-array-set-from-items : tie.Need-array-set-from-items Inv-loop2 μ-loop2 Inv-loop μ-loop
-array-set-from-items c = plain-fits _ _ _ _ _ _ (plain (c .before .before)) .room
+put-requires : tie.Need-put-requires Inv-loop2 μ-loop2 Inv-loop μ-loop
+put-requires c κs = plain-fits _ _ _ _ _ _ (plain (c .before .before .before)) .room
 
 add-n : tie.Need-add-n Inv-loop2 μ-loop2 Inv-loop μ-loop
-add-n c = let f = plain-fits _ _ _ _ _ _ (plain (c .before .before)) in omega (arith, f .later, f .inside, f .room)
+add-n c = let f = plain-fits _ _ _ _ _ _ (plain (c .before .before .before .before)) in omega (arith, f .later, f .inside, f .room)
 
 add-at : tie.Need-add-at Inv-loop2 μ-loop2 Inv-loop μ-loop
-add-at c = let f = plain-fits _ _ _ _ _ _ (plain (c .before .before)) in omega (arith, f .later, f .inside, f .room, c .before .before .before .before .before .before .before .before .pre .0)
+add-at c = let f = plain-fits _ _ _ _ _ _ (plain (c .before .before .before .before)) in omega (arith, f .later, f .inside, f .room, c .before .before .before .before .before .before .before .before .before .before .pre .0)
 
 loop-less-2 : tie.Need-loop-less-2 Inv-loop2 μ-loop2 Inv-loop μ-loop
-loop-less-2 c = let f = plain-fits _ _ _ _ _ _ (plain (c .before .before)) in omega (arith, f .later, f .inside, f .room, c .before .before .before .before .before .loop-test .taken)
+loop-less-2 c = let f = plain-fits _ _ _ _ _ _ (plain (c .before .before .before .before)) in omega (arith, f .later, f .inside, f .room, c .before .before .before .before .before .before .before .loop-test .taken)
 
 loop-again-2 : tie.Need-loop-again-2 Inv-loop2 μ-loop2 Inv-loop μ-loop
 loop-again-2 c =
-    let f = c .before .before in
-    listing-plain (f .before .before .before .before .loop .inv) (f .before .before .before .loop-test .taken) (plain f) (plain-fits _ _ _ _ _ _ (plain f) .room) (c .payload .ensures)
+    let f = c .before .before .before .before in
+    listing-plain (f .before .before .before .before .loop .inv) (f .before .before .before .loop-test .taken) (plain f) (plain-fits _ _ _ _ _ _ (plain f) .room) (c .before .before .payload .ensures) (c .put .ensures)
 
 enum-known-step-4 : tie.Need-enum-known-step-4 Inv-loop2 μ-loop2 Inv-loop μ-loop
 enum-known-step-4 c = search needs
@@ -183,19 +182,19 @@ inner-at-requires c κs = search needs
 enum-known-found : tie.Need-enum-known-found Inv-loop2 μ-loop2 Inv-loop μ-loop
 enum-known-found c = search needs
 
-add-refused : tie.Need-add-refused Inv-loop2 μ-loop2 Inv-loop μ-loop
-add-refused c = let f = open-fits _ _ _ _ _ (opens (c .before .before .before .before .before .before .before .before)) in omega (arith, f .0 .later, f .0 .inside, f .0 .room, f .1, c .before .before .before .before .before .before .before .before .before .before .before .before .before .before .pre .0, c .before .before .before .before .before .loop2-test .taken)
+add-stopped : tie.Need-add-stopped Inv-loop2 μ-loop2 Inv-loop μ-loop
+add-stopped c = let f = open-fits _ _ _ _ _ (opens (c .before .before .before .before .before .before .before .before)) in omega (arith, f .0 .later, f .0 .inside, f .0 .room, f .1, c .before .before .before .before .before .before .before .before .before .before .before .before .before .before .pre .0, c .before .before .before .before .before .loop2-test .taken)
 
-refused-requires-3 : tie.Need-refused-requires-3 Inv-loop2 μ-loop2 Inv-loop μ-loop
-refused-requires-3 c κs = search needs
+stopped-requires-3 : tie.Need-stopped-requires-3 Inv-loop2 μ-loop2 Inv-loop μ-loop
+stopped-requires-3 c κs = search needs
 
 returns-3 : tie.Need-returns-3 Inv-loop2 μ-loop2 Inv-loop μ-loop
 returns-3 c =
     let f = c .before .before in
     let o = f .before .before .before .before .before .before .before in
     let h = o .before .before .before .loop-test .taken in
-    shown-refused _ _ _ _
-    (coming-refused (now-coming (o .before .before .before .before .loop .inv) h) h (opens o) (inside-stops (f .before .before .before .before .before .loop2 .inv .inside) (here (f .before .before .before .before)) (wrong f))) (c .refused3 .ensures)
+    tells-refused _ _ _ _
+    (coming-refused (now-coming (o .before .before .before .before .loop .inv) h) h (opens o) (inside-stops (f .before .before .before .before .before .loop2 .inv .inside) (here (f .before .before .before .before)) (wrong f))) (c .stopped3 .ensures)
 
 enum-known-found-2 : tie.Need-enum-known-found-2 Inv-loop2 μ-loop2 Inv-loop μ-loop
 enum-known-found-2 c = search needs
@@ -218,49 +217,43 @@ payload-requires-2 c κs =
     let w = inner-within _ _ _ _ _ _ (whole (c .before)) in
     (c .before .before .before .before .before .before .before .before .before .before .before .before .before .before .pre .1, c .before .before .before .before .before .before .before .before .before .before .before .before .before .before .pre .2, omega (arith, f .0 .inside, f .1, long (c .before .before .before .before .before .before .before .before), w .0 .later, w .0 .inside, c .before .before .before .before .before .before .before .before .before .before .before .before .before .before .pre .0))
 
-mul-items-2 : tie.Need-mul-items-2 Inv-loop2 μ-loop2 Inv-loop μ-loop
-mul-items-2 c =
-    let f = open-fits _ _ _ _ _ (opens (c .before .before .before .before .before .before .before .before .before)) in
-    let w = inner-within _ _ _ _ _ _ (whole (c .before .before)) in
-    omega (arith, f .0 .inside, f .1, long (c .before .before .before .before .before .before .before .before .before), w .0 .later, w .0 .inside, w .1, c .before .before .before .before .before .before .before .before .before .before .before .before .before .before .before .pre .0)
-
-array-set-from-items-2 : tie.Need-array-set-from-items-2 Inv-loop2 μ-loop2 Inv-loop μ-loop
-array-set-from-items-2 c = inner-within _ _ _ _ _ _ (whole (c .before .before)) .1
+put-requires-2 : tie.Need-put-requires-2 Inv-loop2 μ-loop2 Inv-loop μ-loop
+put-requires-2 c κs = inner-within _ _ _ _ _ _ (whole (c .before .before .before)) .1
 
 add-k-2 : tie.Need-add-k-2 Inv-loop2 μ-loop2 Inv-loop μ-loop
 add-k-2 c =
-    let f = open-fits _ _ _ _ _ (opens (c .before .before .before .before .before .before .before .before .before)) in
-    let w = inner-within _ _ _ _ _ _ (whole (c .before .before)) in
-    omega (arith, f .0 .inside, f .1, long (c .before .before .before .before .before .before .before .before .before), w .0 .later, w .0 .inside, w .1, c .before .before .before .before .before .before .before .before .before .before .before .before .before .before .before .pre .0)
+    let f = open-fits _ _ _ _ _ (opens (c .before .before .before .before .before .before .before .before .before .before .before)) in
+    let w = inner-within _ _ _ _ _ _ (whole (c .before .before .before .before)) in
+    omega (arith, f .0 .inside, f .1, long (c .before .before .before .before .before .before .before .before .before .before .before), w .0 .later, w .0 .inside, w .1, c .before .before .before .before .before .before .before .before .before .before .before .before .before .before .before .before .before .pre .0)
 
 add-j : tie.Need-add-j Inv-loop2 μ-loop2 Inv-loop μ-loop
 add-j c =
-    let f = open-fits _ _ _ _ _ (opens (c .before .before .before .before .before .before .before .before .before)) in
-    let w = inner-within _ _ _ _ _ _ (whole (c .before .before)) in
-    omega (arith, f .0 .inside, f .1, long (c .before .before .before .before .before .before .before .before .before), w .0 .later, w .0 .inside, w .1, c .before .before .before .before .before .before .before .before .before .before .before .before .before .before .before .pre .0)
+    let f = open-fits _ _ _ _ _ (opens (c .before .before .before .before .before .before .before .before .before .before .before)) in
+    let w = inner-within _ _ _ _ _ _ (whole (c .before .before .before .before)) in
+    omega (arith, f .0 .inside, f .1, long (c .before .before .before .before .before .before .before .before .before .before .before), w .0 .later, w .0 .inside, w .1, c .before .before .before .before .before .before .before .before .before .before .before .before .before .before .before .before .before .pre .0)
 
 loop2-less : tie.Need-loop2-less Inv-loop2 μ-loop2 Inv-loop μ-loop
 loop2-less c =
-    let f = open-fits _ _ _ _ _ (opens (c .before .before .before .before .before .before .before .before .before)) in
-    let w = inner-within _ _ _ _ _ _ (whole (c .before .before)) in
-    omega (arith, f .0 .inside, f .1, long (c .before .before .before .before .before .before .before .before .before), w .0 .later, w .0 .inside, w .1, c .before .before .before .before .before .before .before .before .before .before .before .before .before .before .before .pre .0)
+    let f = open-fits _ _ _ _ _ (opens (c .before .before .before .before .before .before .before .before .before .before .before)) in
+    let w = inner-within _ _ _ _ _ _ (whole (c .before .before .before .before)) in
+    omega (arith, f .0 .inside, f .1, long (c .before .before .before .before .before .before .before .before .before .before .before), w .0 .later, w .0 .inside, w .1, c .before .before .before .before .before .before .before .before .before .before .before .before .before .before .before .before .before .pre .0)
 
 loop2-again : tie.Need-loop2-again Inv-loop2 μ-loop2 Inv-loop μ-loop
 loop2-again c =
-    let f = c .before .before in
-    filling-on (f .before .before .before .before .before .loop2 .inv) (here (f .before .before .before .before)) (whole f) (c .payload2 .ensures)
+    let f = c .before .before .before .before in
+    filling-on (f .before .before .before .before .before .loop2 .inv) (here (f .before .before .before .before)) (whole f) (c .before .before .payload2 .ensures) (c .put2 .ensures)
 
 add-if2 : tie.Need-add-if2 Inv-loop2 μ-loop2 Inv-loop μ-loop
 add-if2 c = let f = open-fits _ _ _ _ _ (opens (c .before .before .before)) in omega (arith, f .0 .later, f .0 .inside, f .0 .room, f .1)
 
-refused-requires-4 : tie.Need-refused-requires-4 Inv-loop2 μ-loop2 Inv-loop μ-loop
-refused-requires-4 c κs = search needs
+stopped-requires-4 : tie.Need-stopped-requires-4 Inv-loop2 μ-loop2 Inv-loop μ-loop
+stopped-requires-4 c κs = search needs
 
 returns-4 : tie.Need-returns-4 Inv-loop2 μ-loop2 Inv-loop μ-loop
 returns-4 c =
     let l = c .before .before in
     let o = l .before .before .before in
-    shown-refused _ _ _ _ (listing-none (o .before .before .before .before .loop .inv) (o .before .before .before .loop-test .taken) (opens o) (l .before .loop2 .inv) (past l) (c .before .if2 .taken)) (c .refused4 .ensures)
+    tells-refused _ _ _ _ (listing-none (o .before .before .before .before .loop .inv) (o .before .before .before .loop-test .taken) (opens o) (l .before .loop2 .inv) (past l) (c .before .if2 .taken)) (c .stopped4 .ensures)
 
 add-head : tie.Need-add-head Inv-loop2 μ-loop2 Inv-loop μ-loop
 add-head c = let f = open-fits _ _ _ _ _ (opens (c .before .before .before .before)) in omega (arith, f .0 .later, f .0 .inside, f .0 .room, f .1)
@@ -274,26 +267,23 @@ head-requires c κs =
     let w = c .before .before .loop2 .inv .inside in
     (omega (arith, f .0 .inside, f .1), omega (arith, f .0 .later, f .0 .inside, c .before .before .before .before .before .before .before .before .before .before .pre .0), omega (arith, w .room))
 
-mul-items-3 : tie.Need-mul-items-3 Inv-loop2 μ-loop2 Inv-loop μ-loop
-mul-items-3 c = let f = open-fits _ _ _ _ _ (opens (c .before .before .before .before .before)) in omega (arith, f .0 .later, f .0 .inside, f .0 .room, f .1)
-
-array-set-from-items-3 : tie.Need-array-set-from-items-3 Inv-loop2 μ-loop2 Inv-loop μ-loop
-array-set-from-items-3 c = let f = open-fits _ _ _ _ _ (opens (c .before .before .before .before .before)) in omega (arith, f .0 .later, f .0 .inside, f .0 .room, f .1)
+put-requires-3 : tie.Need-put-requires-3 Inv-loop2 μ-loop2 Inv-loop μ-loop
+put-requires-3 c κs = let f = open-fits _ _ _ _ _ (opens (c .before .before .before .before .before .before)) in omega (arith, f .0 .later, f .0 .inside, f .0 .room, f .1)
 
 loop-less-3 : tie.Need-loop-less-3 Inv-loop2 μ-loop2 Inv-loop μ-loop
-loop-less-3 c = let f = open-fits _ _ _ _ _ (opens (c .before .before .before .before .before)) in omega (arith, f .0 .later, f .0 .inside, f .0 .room, f .1, c .before .before .before .before .before .before .before .before .loop-test .taken)
+loop-less-3 c = let f = open-fits _ _ _ _ _ (opens (c .before .before .before .before .before .before .before)) in omega (arith, f .0 .later, f .0 .inside, f .0 .room, f .1, c .before .before .before .before .before .before .before .before .before .before .loop-test .taken)
 
 loop-again-3 : tie.Need-loop-again-3 Inv-loop2 μ-loop2 Inv-loop μ-loop
 loop-again-3 c =
-    let l = c .before .before in
+    let l = c .before .before .before .before in
     let o = l .before .before .before in
-    listing-sync (o .before .before .before .before .loop .inv) (o .before .before .before .loop-test .taken) (opens o) (l .before .loop2 .inv) (past l) (c .before .if2 .left) (c .head .ensures)
+    listing-sync (o .before .before .before .before .loop .inv) (o .before .before .before .loop-test .taken) (opens o) (l .before .loop2 .inv) (past l) (c .before .before .before .if2 .left) (c .before .before .head .ensures) (c .put3 .ensures)
 
-cast-t69 : tie.Need-cast-t69 Inv-loop2 μ-loop2 Inv-loop μ-loop
-cast-t69 c = omega (arith, c .before .before .before .before .before .pre .1 .few)
+cast-t58 : tie.Need-cast-t58 Inv-loop2 μ-loop2 Inv-loop μ-loop
+cast-t58 c = omega (arith, c .before .before .before .pre .1 .few)
 
 returns-5 : tie.Need-returns-5 Inv-loop2 μ-loop2 Inv-loop μ-loop
-returns-5 c = listing-ends (c .before .before .before .loop .inv) _ _ _ _ (c .before .before .loop-test .left)
+returns-5 c = tells-done (c .before .loop .slots) (c .before .loop .inv) _ _ _ (c .loop-test .left)
 
 pub read-items-spec : {M : Type 1} → statement M
 read-items-spec =
@@ -306,18 +296,17 @@ read-items-spec =
     loop-holds
     item-at-requires
     enum-known-step
-    refused-requires
+    stopped-requires
     returns
     enum-known-step-2
     crc-good-requires
-    refused-requires-2
+    stopped-requires-2
     returns-2
     loop-less
     loop-again
     enum-known-step-3
     payload-requires
-    mul-items
-    array-set-from-items
+    put-requires
     add-n
     add-at
     loop-less-2
@@ -333,28 +322,26 @@ read-items-spec =
     part-inner-at-end
     inner-at-requires
     enum-known-found
-    add-refused
-    refused-requires-3
+    add-stopped
+    stopped-requires-3
     returns-3
     enum-known-found-2
     add-payload
     add-payload-2
     payload-requires-2
-    mul-items-2
-    array-set-from-items-2
+    put-requires-2
     add-k-2
     add-j
     loop2-less
     loop2-again
     add-if2
-    refused-requires-4
+    stopped-requires-4
     returns-4
     add-head
     sub-head
     head-requires
-    mul-items-3
-    array-set-from-items-3
+    put-requires-3
     loop-less-3
     loop-again-3
-    cast-t69
+    cast-t58
     returns-5)

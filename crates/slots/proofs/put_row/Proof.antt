@@ -1,11 +1,11 @@
--- `rows::put_row` meets its contract: eight stores, one after the other.
+-- `slots::put_row` meets its contract: eight stores, one after the other.
 -- Assumes nothing.
 use borrow.Author.Needs.{needs}
 use native.Mathlib.Omega.{arith}
 use lib.ListN.{length-set}
-use Rattle.rows.proofs.Laws.{wrote-eight}
-use Rattle.rows.proofs.put_row.Statement.{statement}
-use Rattle.rows.proofs.put_row.Tie as tie
+use Rattle.slots.proofs.Stores.{wrote-eight}
+use Rattle.slots.proofs.put_row.Statement.{statement}
+use Rattle.slots.proofs.put_row.Tie as tie
 
 mul-out : tie.Need-mul-out
 mul-out c = search needs
