@@ -76,10 +76,10 @@ extern "C" {
 #define BW_SHEET_MAX (8 + 16 * BW_SHEET_LABELS_MAX + 4 * BW_SHEET_NUMBERS_MAX) /* bytes of the longest keep sheet */
 
 /*
- * Bytes of stack to leave for a call. Measured, not proved: bw_scrub takes 42 KiB, bw_read 36 KiB, bw_check 27 KiB, the
+ * Bytes of stack to leave for a call. Measured, not proved: bw_scrub takes 32 KiB, bw_read 29 KiB, bw_check 27 KiB, the
  * others under 1 KiB.
  */
-#define BW_STACK 49152
+#define BW_STACK 40960
 
 /* Tag numbers on a keep sheet are from 4 (1 to 3 are Config, Sync and CRC) to this. */
 #define BW_TAG_MAX 268435455
