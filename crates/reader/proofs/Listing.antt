@@ -11,6 +11,7 @@ use lib.Seq.{sets}
 use Rattle.lists.proofs.Cases.{absurd-eq}
 use Rattle.refusals.specs.declared.Refusal.{Refusal}
 use Rattle.refusals.specs.declared.Refusal.the-variants as R
+use Rattle.refusals.specs.declared.Answer.{Answer}
 use Rattle.refusals.specs.declared.Answer.the-variants as A
 use Rattle.refusals.specs.Outcomes.{Outcome, fine, refused}
 use Rattle.pack.specs.Payloads.{innerAt, payload}
@@ -21,13 +22,15 @@ use Rattle.pack.specs.declared.Head.{Head}
 use Rattle.pack.specs.declared.Item.the-variants as I
 use Rattle.pack.specs.declared.Slot.{Slot}
 use Rattle.pack.specs.declared.Reading.{Reading}
-use Rattle.pack.specs.declared.Found.the-variants.{Whole}
+use Rattle.pack.specs.declared.Found.the-variants.{Whole, Wrong}
 use Rattle.pack.specs.declared.Step.the-variants as S
+use Rattle.pack.proofs.Payloads.{open-fits}
 use Rattle.pack.proofs.Padded.{set-padded}
-use Rattle.checker.proofs.Inside.{Inside, inside-begins, inside-ends, inside-on}
-use Rattle.checker.proofs.Coming.{Coming, coming-begins, coming-ends, coming-good, coming-plain, coming-none, coming-sync}
+use Rattle.checker.proofs.Outcomes.{answered-fine, answered-refused, fine-of, refused-of}
+use Rattle.checker.proofs.Inside.{Inside, inside-begins, inside-ends, inside-stops, inside-on}
+use Rattle.checker.proofs.Coming.{Coming, insideRun, coming-begins, coming-ends, coming-good, coming-plain, coming-refused, coming-none, coming-sync, inside-long, inside-part}
 use Rattle.slots.specs.Slots.{slotsIn}
-use Rattle.reader.specs.Shown.{headOf, shownBody, outlineOf, BodyTold}
+use Rattle.reader.specs.Shown.{headOf, InsideRead, shownBody, outlineOf, BodyTold}
 use Rattle.reader.specs.declared.Outline.{Outline}
 use Rattle.reader.proofs.Slots.{innerSlot, length-slots, slots-one, slots-many, sets-padded, sets-snoc, sets-before}
 
@@ -53,6 +56,28 @@ filling-on {q} {tags} {base} {fuel} {used} {items₀} {items} {k} {j} {t} {v} {l
       ∙ sets-snoc items₀ used (map innerSlot (g .xs)) k (innerSlot (payload tags (base + j) t (base + v) l)) m
       ∙ ap (sets items₀ used) (sym (map-append innerSlot (g .xs) (payload tags (base + j) t (base + v) l ∷ [])));
 }
+
+-- what is told when the loop over an inside is through, and where it stops
+module _ {q tags : List ℕ} {base used : ℕ} {items₀ items : List Slot} {k j : ℕ} (g : (fuel : ℕ) → length q ≤ fuel → Filling q tags base fuel used items₀ items k j) where
+  pub filling-ends : length q ≤ j → InsideRead q tags base used (A.Done k) items₀ items
+  filling-ends z = record {
+    told = λ fuel h.
+        let w = g fuel h .inside in
+        ap A.Done (sym (w .long)) ∙ answered-fine (λ (xs : List Payload). used + length xs) (inside-ends w z);
+    few = λ n e. let x : k ≡ n = cc in omega (arith, g (length q) (omega arith) .inside .room);
+    full = λ fuel xs h e.
+        let w = g fuel h in
+        let i = inside-ends (w .inside) z in
+        let same : w .xs ≡ xs = cc in
+        w .full ∙ ap (λ (ys : List Payload). sets items₀ used (map innerSlot ys)) same;
+  }
+
+  pub filling-stops : j < length q → {why : Refusal} → innerAt q j k ≡ Wrong why → {r : Answer} → r ≡ A.Refused why (base + j) → InsideRead q tags base used r items₀ items
+  filling-stops h e i = record {
+    told = λ fuel l. answered-refused _ (inside-stops (g fuel l .inside) h e) i;
+    few = λ n d. absurd-eq (cc);
+    full = λ fuel xs l d. let o = inside-stops (g fuel l .inside) h e in absurd-eq (cc);
+  }
 
 -- the loop goes on, or a good CRC has ended it
 pub data Going (s tags : List ℕ) (from : ℕ) (parts : List Part) (n at : ℕ) : Bool → Type 0 where
@@ -123,33 +148,52 @@ module _ {s tags : List ℕ} {from : ℕ} {items : List Slot} {n at : ℕ} {c : 
           ∙ ap (padded 64 blank) (sym (slots-one (g .parts) (payload tags at t v l)));
     }
 
-    -- a Sync, by what stands in the array once its inside is read
-    module _ {v l k j : ℕ} {items₁ : List Slot} (e : itemAt s at n ≡ S.Open v l)
-        (w : Filling (take (l - 4) (drop (v + 4) s)) tags (v + 4) l (n + 1) items items₁ k j) (z : length (take (l - 4) (drop (v + 4) s)) ≤ j) where
-      pub listing-none : k ≡ n + 1 → itemsFrom (length s) s tags from 0 ≡ refused R.Sync at
-      listing-none u = coming-none now-coming h e (w .xs) (inside-ends (w .inside) z) (omega (arith, w .inside .long))
+    -- a Sync, by what is told of its inside, as the code cuts it
+    module _ {v l : ℕ} (e : itemAt s at n ≡ S.Open v l) {r : Answer} {items₁ : List Slot}
+        (cut : InsideRead (take (v + l - (v + 4)) (drop (v + 4) s)) tags (v + 4) (n + 1) r items items₁) where
+      reads : InsideRead (take (l - 4) (drop (v + 4) s)) tags (v + 4) (n + 1) r items items₁
+      reads = subst (λ (q : List ℕ). InsideRead q tags (v + 4) (n + 1) r items items₁) (inside-part s v l) cut
 
-      pub listing-sync : {x : Head} → (k ≡ n + 1 → ⊥) → x ≡ headOf s at v l (k - (n + 1)) → {after : List Slot} → after ≡ set items₁ n (slot (I.Sync x))
-          → Listing s tags from after k (v + l) c
-      listing-sync {x} u i put =
-          let long : n + 1 + length (w .xs) ≡ k = w .inside .long in
-          let m : k - (n + 1) ≡ length (w .xs) = omega arith in
-          let y = syncHead s at v l (w .xs) in
-          let ys = slot (I.Sync y) ∷ map innerSlot (w .xs) in
-          let many-long : length ys ≡ suc (length (w .xs)) = ap suc (length-map (w .xs) innerSlot) in
-          let coming = coming-sync now-coming h e (w .xs) (inside-ends (w .inside) z) (λ q. u (omega arith)) (omega (arith, w .inside .room)) in
-          record {
-            parts = g .parts ++ (many y (w .xs) ∷ []);
-            state = subst (λ (d : ℕ). Going s tags from (g .parts ++ (many y (w .xs) ∷ [])) d (v + l) c) long (goes-on (g .state) h coming);
-            full =
-                put
-                ∙ ap₂ (λ (a : List Slot) (d : Head). set a n (slot (I.Sync d))) (w .full) (i ∙ ap (headOf s at v l) m)
-                ∙ sets-before items (n + 1) n (map innerSlot (w .xs)) (slot (I.Sync y)) (omega arith)
-                ∙ ap (λ (d : ℕ). sets (set items n (slot (I.Sync y))) d (map innerSlot (w .xs))) (add-one n)
-                ∙ ap (λ (a : List Slot). sets a n ys) (g .full)
-                ∙ sets-padded 64 blank (slots (g .parts)) n ys used (omega (arith, many-long, w .inside .room))
-                ∙ ap (padded 64 blank) (sym (slots-many (g .parts) y (w .xs)));
-          }
+      enough : length (take (l - 4) (drop (v + 4) s)) ≤ l
+      enough = let f = open-fits s at n v l e in omega (arith, inside-long s v l (f .0 .inside) (f .1))
+
+      pub listing-refused : {why : Refusal} {p : ℕ} → r ≡ A.Refused why p → itemsFrom (length s) s tags from 0 ≡ refused why p
+      listing-refused d = coming-refused now-coming h e (refused-of _ _ (sym d ∙ reads .told l enough))
+
+      module _ {k : ℕ} (d : r ≡ A.Done k) where
+        -- the payloads inside
+        listing-inside : (P : Type 0) → ((xs : List Payload) → insideRun s tags v l n ≡ fine xs → k ≡ n + 1 + length xs → P) → P
+        listing-inside P = fine-of (λ (xs : List Payload). n + 1 + length xs) (insideRun s tags v l n) P (sym d ∙ reads .told l enough)
+
+        pub listing-some : n + 1 ≤ k
+        listing-some = listing-inside (n + 1 ≤ k) (λ xs j m. omega arith)
+
+        pub listing-none : k ≡ n + 1 → itemsFrom (length s) s tags from 0 ≡ refused R.Sync at
+        listing-none u = listing-inside (itemsFrom (length s) s tags from 0 ≡ refused R.Sync at) (λ xs j m. coming-none now-coming h e xs j (omega arith))
+
+        pub listing-sync : {x : Head} → (k ≡ n + 1 → ⊥) → x ≡ headOf s at v l (k - (n + 1)) → {after : List Slot} → after ≡ set items₁ n (slot (I.Sync x))
+            → Listing s tags from after k (v + l) c
+        listing-sync {x} u y {after} put =
+            listing-inside (Listing s tags from after k (v + l) c)
+            (λ xs j m.
+            let few = reads .few k d in
+            let inner : k - (n + 1) ≡ length xs = omega arith in
+            let head = syncHead s at v l xs in
+            let ys = slot (I.Sync head) ∷ map innerSlot xs in
+            let many-long : length ys ≡ suc (length xs) = ap suc (length-map xs innerSlot) in
+            let coming = coming-sync now-coming h e xs j (λ q. u (omega arith)) (omega arith) in
+            record {
+              parts = g .parts ++ (many head xs ∷ []);
+              state = subst (λ (z : ℕ). Going s tags from (g .parts ++ (many head xs ∷ [])) z (v + l) c) (sym m) (goes-on (g .state) h coming);
+              full =
+                  put
+                  ∙ ap₂ (λ (a : List Slot) (z : Head). set a n (slot (I.Sync z))) (reads .full l xs enough j) (y ∙ ap (headOf s at v l) inner)
+                  ∙ sets-before items (n + 1) n (map innerSlot xs) (slot (I.Sync head)) (omega arith)
+                  ∙ ap (λ (z : ℕ). sets (set items n (slot (I.Sync head))) z (map innerSlot xs)) (add-one n)
+                  ∙ ap (λ (a : List Slot). sets a n ys) (g .full)
+                  ∙ sets-padded 64 blank (slots (g .parts)) n ys used (omega (arith, many-long))
+                  ∙ ap (padded 64 blank) (sym (slots-many (g .parts) head xs));
+            })
 
 -- the items are read
 pub tells-done : {s tags : List ℕ} {from n at : ℕ} {c : Bool} (slots : List ℕ) → Listing s tags from (slotsIn slots) n at c → (offset mapped : ℕ) (all : List ℕ) → length s ≤ at

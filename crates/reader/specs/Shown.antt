@@ -1,17 +1,23 @@
 -- What the steps of a reading make. No rule of document 01 is stated here.
 -- Assumes nothing.
 use mathlib.Core.Path.{_≡_}
-use mathlib.Core.List.{List}
-use Prim.Native.Nat.{ℕ, _+_}
+use mathlib.Core.List.{List, map}
+use Prim.Native.Nat.{ℕ, _+_, _≤_}
 use lib.ListN.{length}
+use lib.Seq.{sets}
+use Rattle.refusals.specs.declared.Answer.{Answer}
 use Rattle.refusals.specs.declared.Answer.the-variants as A
-use Rattle.refusals.specs.Outcomes.{Outcome, fine, refused, andThen}
+use Rattle.refusals.specs.Outcomes.{Outcome, fine, refused, andThen, answered}
 use Rattle.numbers.specs.Big.{bigAt}
 use Rattle.pack.specs.Fixed.{itemCap}
 use Rattle.pack.specs.Config.{Mapping}
+use Rattle.pack.specs.Payloads.{innersFrom}
 use Rattle.pack.specs.Items.{Body, countOf}
-use Rattle.pack.specs.Reading.{Opening, reading, slots, blank, padded, shown}
+use Rattle.pack.specs.Reading.{Opening, reading, slot, slots, blank, padded, shown}
+use Rattle.pack.specs.declared.Payload.{Payload}
 use Rattle.pack.specs.declared.Head.{Head}
+use Rattle.pack.specs.declared.Item.the-variants as I
+use Rattle.pack.specs.declared.Slot.{Slot}
 use Rattle.pack.specs.declared.Reading.{Reading}
 use Rattle.config.specs.Tables.{Hold}
 use Rattle.slots.specs.Slots.{slotsIn}
@@ -22,6 +28,12 @@ use Rattle.reader.specs.declared.Opened.the-variants as O
 -- a Sync with m payloads inside
 abbrev pub headOf : List ℕ → ℕ → ℕ → ℕ → ℕ → Head
 headOf s at v l m = record { start = at; «value_start» = v; «value_len» = l; offset = bigAt s v 2; duration = bigAt s (v + 2) 2; inside = m }
+
+-- the payloads of an inside q stand in the slots from `used` on; fuel, if it is enough, does not matter
+pub record InsideRead (q tags : List ℕ) (base used : ℕ) (r : Answer) (before after : List Slot) : Type 0 where
+  pub told : (k : ℕ) → length q ≤ k → r ≡ answered (λ (xs : List Payload). used + length xs) (innersFrom k q tags base 0 used)
+  pub few : (n : ℕ) → r ≡ A.Done n → n ≤ itemCap
+  pub full : (k : ℕ) (xs : List Payload) → length q ≤ k → innersFrom k q tags base 0 used ≡ fine xs → after ≡ sets before used (map (λ (x : Payload). slot (I.Inner x)) xs)
 
 -- how the struct shows the items of a pack whose opening is known: its offset, how many mappings, and their two tables
 unfoldable pub shownBody : ℕ → ℕ → List ℕ → List ℕ → Outcome Body → Reading

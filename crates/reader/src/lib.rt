@@ -10,7 +10,7 @@ ghost use Rattle.pack.specs.Reading.{valueStart, openingAt, reading, blank, sho
 ghost use Rattle.pack.specs.Meaning.{stretchIn, valueOf, labelAt};
 ghost use Rattle.config.specs.Tables.{Filled, Knows, Empty};
 ghost use Rattle.slots.specs.Slots.{slotsIn};
-ghost use Rattle.reader.specs.Shown.{headOf, outlineOf, Outlined, BodyTold, Opens};
+ghost use Rattle.reader.specs.Shown.{headOf, InsideRead, outlineOf, Outlined, BodyTold, Opens};
 use config::First;
 use pack::Found;
 use pack::Head;
@@ -127,6 +127,51 @@ fn head(s: &[u8], at: usize, value_start: usize, value_len: usize, inside: usize
     }
 }
 
+// The payloads of the inside of a Sync, which stands at `base` of the pack, into the slots from `used` on: how many slots are used with them.
+fn read_inside(
+    q: &[u8],
+    base: usize,
+    used: usize,
+    mapped: usize,
+    tags: &[u32; 32],
+    known: &[u8; 128],
+    slots: &mut [u32; 512],
+) -> Answer
+    requires { ⌜ (used ≤ 64) × (base + length (now q) ≤ 32768) × Filled mapped (now tags) × Knows (take mapped (now tags)) (now known) ⌝ }
+    ensures { λ r. ⌜ InsideRead (now (q .entry)) (take mapped (now (tags .entry))) base used r (slotsIn (now (slots .entry))) (slotsIn (now (slots .exit))) ⌝ }
+{
+    let mut k = used;
+    let mut j: usize = 0;
+    while j < q.len() {
+        let found = pack::inner_at(q, j, k);
+        match found {
+            Found::Wrong(why) => {
+                return pack::refuse(why, base + j);
+            }
+            Found::Whole {
+                tag,
+                value_start,
+                value_len,
+            } => {
+                let x = payload(
+                    tags,
+                    mapped,
+                    known,
+                    tag,
+                    base + j,
+                    base + value_start,
+                    value_len,
+                );
+                let i = Item::Inner(x);
+                slots::put(&mut *slots, k, i);
+                k += 1;
+                j = value_start + value_len;
+            }
+        }
+    }
+    Answer::Done(k)
+}
+
 // The items of the pack from `from` on, into `slots`, which come empty. The inside of a Sync is handed to its reader as a part on its own.
 fn read_items(
     s: &[u8],
@@ -173,43 +218,30 @@ fn read_items(
             } => {
                 let base = value_start + 4;
                 let end = value_start + value_len;
-                let mut k = n + 1;
-                let mut j: usize = 0;
-                while j < end - base {
-                    let found = pack::inner_at(&s[base..end], j, k);
-                    match found {
-                        Found::Wrong(why) => {
-                            return stopped(why, base + j);
+                let inside = read_inside(
+                    &s[base..end],
+                    base,
+                    n + 1,
+                    mapped,
+                    tags,
+                    known,
+                    &mut *slots,
+                );
+                match inside {
+                    Answer::Refused { why, place } => {
+                        return stopped(why, place);
+                    }
+                    Answer::Done(k) => {
+                        if k == n + 1 {
+                            return stopped(Refusal::Sync, at);
                         }
-                        Found::Whole {
-                            tag,
-                            value_start,
-                            value_len,
-                        } => {
-                            let x = payload(
-                                tags,
-                                mapped,
-                                known,
-                                tag,
-                                base + j,
-                                base + value_start,
-                                value_len,
-                            );
-                            let i = Item::Inner(x);
-                            slots::put(&mut *slots, k, i);
-                            k += 1;
-                            j = value_start + value_len;
-                        }
+                        let h = head(s, at, value_start, value_len, k - (n + 1));
+                        let i = Item::Sync(h);
+                        slots::put(&mut *slots, n, i);
+                        n = k;
+                        at = end;
                     }
                 }
-                if k == n + 1 {
-                    return stopped(Refusal::Sync, at);
-                }
-                let h = head(s, at, value_start, value_len, k - (n + 1));
-                let i = Item::Sync(h);
-                slots::put(&mut *slots, n, i);
-                n = k;
-                at = end;
             }
         }
     }
