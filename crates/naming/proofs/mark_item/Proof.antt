@@ -1,6 +1,5 @@
 -- `naming::mark_item` meets its contract. By cases on the row.
 -- Assumes nothing.
-use Prim.Native.Nat.{_-_}
 use borrow.Author.Needs.{needs}
 use Rattle.pack.proofs.Rows.{single-fits, inner-fits}
 use Rattle.naming.proofs.Naming.{single-mark, inner-mark, sync-mark}

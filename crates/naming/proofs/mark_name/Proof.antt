@@ -1,7 +1,6 @@
 -- `naming::mark_name` meets its contract. By cases on the name.
 -- Assumes nothing.
 use mathlib.Core.Path.{sym, _∙_}
-use Prim.Native.Nat.{_-_}
 use borrow.Author.Needs.{needs}
 use Rattle.pack.proofs.Rows.{label-fits}
 use Rattle.naming.proofs.Naming.{label-stays, label-goes, number-stays, number-goes}

@@ -1,6 +1,5 @@
 -- `planning::tag_of` meets its contract. By cases on the mark.
 -- Assumes nothing.
-use Prim.Native.Nat.{_-_}
 use borrow.Author.Needs.{needs}
 use Rattle.planning.proofs.Rows.{gone-tag, number-tag, label-tag, label-below}
 use borrow.Author.Needs.{needs}
