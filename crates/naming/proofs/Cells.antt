@@ -2,14 +2,14 @@
 -- Assumes nothing.
 use mathlib.Core.Path.{_≡_, refl, ap, _∙_}
 use mathlib.Core.List.{List, [], _∷_}
-use Prim.Native.Nat.{ℕ, _+_, _*_, _<_, _≤_}
+use Prim.Native.Nat.{ℕ, suc, _+_, _*_, _<_, _≤_}
 use native.Mathlib.Omega.{arith}
 use lib.ListN.{length, getD, set, replicate}
 use borrow.Author.Tests.{eq-eqb, ne-eqb}
 use Rattle.lists.specs.Over.{over}
 use Rattle.lists.specs.Cells.{cellsFrom}
+use Rattle.lists.proofs.Over.{stores-over}
 use Rattle.lists.proofs.Cells.{Local, length-cells, cell-at, cells-put}
-use Rattle.lists.proofs.Writing.{writing-begins, writing-byte, writing-done}
 use Rattle.pack.specs.Fixed.{itemCap}
 use Rattle.naming.specs.declared.Mark.{Mark}
 use Rattle.naming.specs.declared.Mark.the-variants as M
@@ -71,10 +71,9 @@ marks-put s long n h m =
     cells-put markedAt 2 near itemCap s (omega (arith, long)) n h (markNumbers m) (mark-two m) (marked M.Gone)
     ∙ ap (λ (x : Mark). set (marksIn s) n (marked x)) (mark-back m)
 
--- two stores are one of two numbers
-pub wrote-two : (s : List ℕ) (at a b : ℕ) → at + 2 ≤ length s → set (set s at a) (at + 1) b ≡ over s at (a ∷ b ∷ [])
-wrote-two s at a b room =
-    (writing-done (writing-byte b [] (writing-byte a (b ∷ []) (writing-begins s at (a ∷ b ∷ []) room)))) .buffer
+-- two stores, one after the other
+pub stored-two : (s : List ℕ) (at a b : ℕ) → at + 2 ≤ length s → set (set s at a) (at + 1) b ≡ over s at (a ∷ b ∷ [])
+stored-two s at a b room = let one : at + 1 ≡ suc at = omega arith in rw one (stores-over s at (a ∷ b ∷ []) room)
 
 module _ (s : List ℕ) (long : length s ≡ 128) (n : ℕ) (h : n < 64) (m : Mark) {r : List ℕ} where
   put : (a b : ℕ) → a ∷ b ∷ [] ≡ markNumbers m → r ≡ over s (2 * n) (a ∷ b ∷ []) → marksIn r ≡ set (marksIn s) n (marked m)

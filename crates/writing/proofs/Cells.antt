@@ -1,14 +1,14 @@
 -- The writes as numbers: what a store changes, what is read back, and an array that holds nothing yet.
 -- Assumes nothing.
 use mathlib.Core.Path.{_≡_, refl, ap, ap₂, _∙_}
-use mathlib.Core.List.{List, [], _∷_, append-assoc}
+use mathlib.Core.List.{List, [], _∷_}
 use Prim.Native.Nat.{ℕ, suc, _+_, _*_, _<_, _≤_, _%_}
 use native.Mathlib.Omega.{arith}
-use lib.ListN.{length, getD, set, take, drop, replicate}
-use lib.Seq.{sets-eq}
+use lib.ListN.{length, getD, set, replicate}
 use borrow.Author.Tests.{eq-eqb, ne-eqb}
 use Rattle.lists.specs.Over.{over}
 use Rattle.lists.specs.Cells.{cellsFrom}
+use Rattle.lists.proofs.Over.{stores-over}
 use Rattle.lists.proofs.Cells.{Local, length-cells, cell-at, cells-put}
 use Rattle.writing.specs.declared.Op.{Op}
 use Rattle.writing.specs.declared.Op.the-variants.{Skip, Put, Open}
@@ -17,12 +17,11 @@ use Rattle.writing.specs.Ops.{OpSlot, opNumbers, opAt, opSlotAt, opsIn}
 -- four stores, one after the other
 pub stored-four : (xs : List ℕ) (at a b c d : ℕ) → at + 4 ≤ length xs
     → set (set (set (set xs at a) (at + 1) b) (at + 2) c) (at + 3) d ≡ over xs at (a ∷ b ∷ c ∷ d ∷ [])
-unfolding over
 stored-four xs at a b c d h =
-    let e : at + 1 ≡ suc at = omega arith in
-    let f : at + 2 ≡ suc (suc at) = omega arith in
-    let g : at + 3 ≡ suc (suc (suc at)) = omega arith in
-    rw (e, f, g) (sets-eq (a ∷ b ∷ c ∷ d ∷ []) xs at h ∙ append-assoc (take at xs) (a ∷ b ∷ c ∷ d ∷ []) (drop (at + 4) xs))
+    let one : at + 1 ≡ suc at = omega arith in
+    let two : at + 2 ≡ suc (suc at) = omega arith in
+    let three : at + 3 ≡ suc (suc (suc at)) = omega arith in
+    rw (one, two, three) (stores-over xs at (a ∷ b ∷ c ∷ d ∷ []) h)
 
 pub length-ops : (s : List ℕ) → length (opsIn s) ≡ 64
 length-ops s = length-cells opSlotAt 4 64 s

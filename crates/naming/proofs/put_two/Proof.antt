@@ -3,7 +3,7 @@
 use borrow.Author.Needs.{needs}
 use lib.ListN.{length-set}
 use native.Mathlib.Omega.{arith}
-use Rattle.naming.proofs.Cells.{wrote-two}
+use Rattle.naming.proofs.Cells.{stored-two}
 use Rattle.naming.proofs.put_two.Statement.{statement}
 use Rattle.naming.proofs.put_two.Tie as tie
 
@@ -26,7 +26,7 @@ same-length : tie.Need-same-length
 same-length c = search needs
 
 returns : tie.Need-returns
-returns c = wrote-two _ _ _ _ (c .pre)
+returns c = stored-two _ _ _ _ (c .pre)
 
 pub put-two-spec : {M : Type 1} → statement M
 put-two-spec =
