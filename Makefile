@@ -7,7 +7,7 @@
 # make test       the gate, from nothing: the same as .ci/run
 # make check      prove what has changed and run the programs, quickly
 # make fuzz       compare archive and reference on what a fuzzer finds, for SECONDS (default 60)
-# make bench      CRC speed beside libavutil's
+# make bench      speeds beside the reference's, and the CRC's beside libavutil's (on x86-64)
 # make clean      remove everything that was built
 .PHONY: demo lib install uninstall test check fuzz bench clean
 
