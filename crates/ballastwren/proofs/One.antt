@@ -1,14 +1,13 @@
 -- Two outcomes of an export that meet its contract on the same input coincide, lent runs included.
--- Assumes nothing.
 use Prim.Native.Nat.{ℕ}
 use mathlib.Core.Path.{_≡_, sym, _∙_}
 use mathlib.Core.List.{List}
 use lib.ListN.{length}
-use Rattle.lists.proofs.Cases.{one}
+use Rattle.runs.proofs.Cases.{one}
 use Rattle.refusals.specs.Outcomes.{Outcome}
 use Rattle.pack.specs.Reading.{checked}
-use Rattle.rows.specs.Rows.{rowsRead}
-use Rattle.kept.specs.Scrubbed.{scrubbed}
+use Rattle.pack_rows.specs.Rows.{rowsRead}
+use Rattle.scrub_kept.specs.Scrubbed.{scrubbed}
 use Rattle.refusals.specs.Lent.{within}
 use Rattle.pmd.specs.Reading.{reading}
 use Rattle.pmd.specs.Writing.{writing}

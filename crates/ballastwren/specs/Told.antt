@@ -1,5 +1,4 @@
 -- What C is told: document 01's numbers.
--- Assumes nothing.
 use mathlib.Core.Path.{_≡_}
 use mathlib.Core.List.{List}
 use mathlib.Core.Bool.{cond}
@@ -7,7 +6,7 @@ use Prim.Native.Nat.{ℕ}
 use lib.ListN.{length}
 use Rattle.refusals.specs.Outcomes.{Outcome, answered, told}
 use Rattle.refusals.specs.declared.Answer.{Answer}
-use Rattle.kept.specs.Scrubbed.{leaves}
+use Rattle.scrub_kept.specs.Scrubbed.{leaves}
 use Rattle.refusals.specs.Lent.{lent}
 use Rattle.pmd.specs.Gain.{toldLevel}
 use Rattle.pmd.specs.declared.Level.{Level}

@@ -3,8 +3,8 @@
 ghost use mathlib.Core.Path.{_≡_};
 ghost use lib.ListN.{length};
 ghost use Rattle.pack.specs.Reading.{checked};
-ghost use Rattle.rows.specs.Rows.{rowsRead};
-ghost use Rattle.kept.specs.Scrubbed.{scrubbed};
+ghost use Rattle.pack_rows.specs.Rows.{rowsRead};
+ghost use Rattle.scrub_kept.specs.Scrubbed.{scrubbed};
 ghost use Rattle.refusals.specs.Lent.{within};
 ghost use Rattle.pmd.specs.Reading.{reading};
 ghost use Rattle.pmd.specs.Writing.{writing};
@@ -57,7 +57,7 @@ fn told_answer(a: Answer) -> Told
 pub extern "C" fn bw_check(pack: &[u8]) -> Told
     ensures { λ r. ⌜ r ≡ toldOf (checked (now (pack .entry))) ⌝ }
 {
-    let a = checker::check(pack);
+    let a = pack_read::check(pack);
     told_answer(a)
 }
 
@@ -67,7 +67,7 @@ pub extern "C" fn bw_check(pack: &[u8]) -> Told
 pub extern "C" fn bw_read(pack: &[u8], rows: &mut [u32]) -> Told
     ensures { λ r. ⌜ Given (within (length (now (rows .entry))) (rowsRead (now (pack .entry)))) (now (rows .entry)) r (now (rows .exit)) ⌝ }
 {
-    let a = rows::rows(pack, &mut *rows);
+    let a = pack_rows::rows(pack, &mut *rows);
     told_answer(a)
 }
 
@@ -87,7 +87,7 @@ pub extern "C" fn bw_scrub(sheet: &[u8], pack: &[u8], out: &mut [u8]) -> Told
 pub extern "C" fn bw_pmd_read(kind: u32, value: &[u8], numbers: &mut [u32]) -> Told
     ensures { λ r. ⌜ Given (within (length (now (numbers .entry))) (reading kind (now (value .entry)))) (now (numbers .entry)) r (now (numbers .exit)) ⌝ }
 {
-    let a = pmd_reading::pmd_read(kind, value, &mut *numbers);
+    let a = pmd_read::pmd_read(kind, value, &mut *numbers);
     told_answer(a)
 }
 
@@ -97,7 +97,7 @@ pub extern "C" fn bw_pmd_read(kind: u32, value: &[u8], numbers: &mut [u32]) -> T
 pub extern "C" fn bw_pmd_write(kind: u32, numbers: &[u32], out: &mut [u8]) -> Told
     ensures { λ r. ⌜ Given (within (length (now (out .entry))) (writing kind (now (numbers .entry)))) (now (out .entry)) r (now (out .exit)) ⌝ }
 {
-    let a = pmd_writing::pmd_write(kind, numbers, &mut *out);
+    let a = pmd_write::pmd_write(kind, numbers, &mut *out);
     told_answer(a)
 }
 

@@ -5,7 +5,7 @@ use libc::STDOUT_FILENO;
 
 fn print(pack: &[u8]) {
     let mut text = [0u8; 4096];
-    let n = listing::list(pack, &mut text);
+    let n = pack_text::list(pack, &mut text);
     if !io::write_all(STDOUT_FILENO, &text[0..n]) {
         os::fail(b"standard output");
     }

@@ -1,8 +1,7 @@
 -- 01's examples marked P, computed from the definitions.
--- Assumes nothing.
 use mathlib.Core.Path.{refl}
-use Rattle.lists.specs.Digits.{digits, numberFrom}
-use Rattle.lists.specs.Same.{same}
+use Rattle.runs.specs.Digits.{digits, numberFrom}
+use Rattle.runs.specs.Same.{same}
 use Rattle.refusals.specs.Outcomes.{andThen}
 use Rattle.numbers.specs.Tags.{tagFrom, tagAt}
 use Rattle.numbers.specs.Lengths.{longAt, lengthAt}

@@ -1,15 +1,14 @@
 -- What Ballastwren promises. Each theorem is stated here once, with a sentence of plain English above it; the work is in the crates that it
 -- cites. A pack, a sheet, a value and a lent buffer are lists of bytes; `Bytes s` says that each element of s is below 256. The definitions that
 -- the statements use stand in the specs/ folders, and the contract of each function says that it computes them.
--- Assumes nothing.
 use mathlib.Core.Path.{_≡_, sym, ap, subst, _∙_}
 use mathlib.Core.Bool.{true, false}
 use mathlib.Core.List.{List, _++_}
 use Prim.Native.Nat.{ℕ, _+_, _-_, _<_, _≤_, _^_}
 use lib.ListN.{length, take, drop, replicate}
-use Rattle.lists.specs.Digits.{Bytes, digits}
-use Rattle.lists.specs.Over.{Wrote}
-use Rattle.lists.specs.Same.{among}
+use Rattle.runs.specs.Digits.{Bytes, digits}
+use Rattle.runs.specs.Over.{Wrote}
+use Rattle.runs.specs.Same.{among}
 use Rattle.refusals.specs.Outcomes.{fine, answered}
 use Rattle.refusals.specs.Refusals.{numberOf}
 use Rattle.refusals.specs.declared.Refusal.{Refusal}
@@ -32,20 +31,20 @@ use Rattle.pack.specs.Reading.{Read, reading, checked, shown}
 use Rattle.pack.specs.Meaning.{meant, valueOf, labelAt}
 use Rattle.pack.specs.declared.Payload.{Payload}
 use Rattle.pack.specs.declared.Reading.{Reading}
-use Rattle.reader.proofs.One as reader
-use Rattle.listing.specs.Text.{listing}
-use Rattle.listing.proofs.One as listings
-use Rattle.layout.specs.Layout.{Description}
-use Rattle.layout.specs.Well.{WellFormed}
-use Rattle.layout.proofs.Complete as complete
-use Rattle.layout.proofs.Sound as sound
-use Rattle.lists.specs.Those.{those, Each}
-use Rattle.kept.specs.Sheet.{Sheet, sheetOf}
-use Rattle.kept.specs.Kept.{keptItems, kept}
-use Rattle.kept.specs.Placed.{Placed, grouped, placed, onSheet, Holds, namedBy}
-use Rattle.kept.specs.Written.{free}
-use Rattle.kept.specs.Scrubbed.{scrubbed, leaves, ReadsAs}
-use Rattle.kept.proofs.Demand3 as demand
+use Rattle.pack_read.proofs.One as reader
+use Rattle.pack_text.specs.Text.{listing}
+use Rattle.pack_text.proofs.One as listings
+use Rattle.pack_layout.specs.Layout.{Description}
+use Rattle.pack_layout.specs.Well.{WellFormed}
+use Rattle.pack_layout.proofs.Complete as complete
+use Rattle.pack_layout.proofs.Sound as sound
+use Rattle.runs.specs.Those.{those, Each}
+use Rattle.scrub_kept.specs.Sheet.{Sheet, sheetOf}
+use Rattle.scrub_kept.specs.Kept.{keptItems, kept}
+use Rattle.scrub_kept.specs.Placed.{Placed, grouped, placed, onSheet, Holds, namedBy}
+use Rattle.scrub_kept.specs.Written.{free}
+use Rattle.scrub_kept.specs.Scrubbed.{scrubbed, leaves, ReadsAs}
+use Rattle.scrub_kept.proofs.Demand3 as demand
 use Rattle.scrub.specs.Scrubs.{Scrubs}
 use Rattle.scrub.proofs.One as scrubs
 use Rattle.pmd.specs.Reading as pmd
@@ -55,9 +54,9 @@ use Rattle.pmd.specs.Gain.{levelOf}
 use Rattle.pmd.specs.declared.Level.{Level}
 use Rattle.pmd.proofs.RoundTrips as trips
 use Rattle.pmd.proofs.One as gains
-use Rattle.pmd_reading.proofs.One as pmd-reads
-use Rattle.pmd_writing.proofs.One as pmd-writes
-use Rattle.rows.specs.Rows.{rowsRead}
+use Rattle.pmd_read.proofs.One as pmd-reads
+use Rattle.pmd_write.proofs.One as pmd-writes
+use Rattle.pack_rows.specs.Rows.{rowsRead}
 use Rattle.ballastwren.specs.Told.{toldOf, toldGainOf, Given, Left}
 use Rattle.ballastwren.specs.declared.Told.{Told}
 use Rattle.ballastwren.specs.declared.ToldGain.{ToldGain}

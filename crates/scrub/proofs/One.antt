@@ -1,9 +1,8 @@
 -- Two outcomes of a scrub that meet its promise on the same sheet, pack and buffer coincide.
--- Assumes nothing.
 use mathlib.Core.Path.{_≡_}
 use mathlib.Core.List.{List}
 use Prim.Native.Nat.{ℕ}
-use Rattle.lists.proofs.Cases.{one}
+use Rattle.runs.proofs.Cases.{one}
 use Rattle.refusals.specs.declared.Answer.{Answer}
 use Rattle.scrub.specs.Scrubs.{Scrubs}
 

@@ -1,5 +1,4 @@
 -- How a scrub comes out: a refusal of the sheet, of the pack, NOROOM, or the written pack.
--- Assumes nothing.
 use mathlib.Core.Path.{_≡_, refl, sym, ap, ap₂, _∙_}
 use mathlib.Core.List.{List, _++_}
 use mathlib.Core.Bool.{true, false}
@@ -7,7 +6,7 @@ use mathlib.Core.Logic.{_⊎_}
 use Prim.Native.Nat.{ℕ, _+_, _-_, _<_, _≤_}
 use native.Mathlib.Omega.{arith}
 use lib.ListN.{length, take, replicate, length-append, length-replicate}
-use Rattle.lists.proofs.Cases.{absurd-eq}
+use Rattle.runs.proofs.Cases.{absurd-eq}
 use Rattle.refusals.specs.declared.Refusal.{Refusal}
 use Rattle.refusals.specs.declared.Refusal.the-variants as R
 use Rattle.refusals.specs.declared.Answer.the-variants as A
@@ -21,22 +20,22 @@ use Rattle.pack.specs.Reading.{Read, reading, slots, blank, shown}
 use Rattle.pack.proofs.Rows.{slots-count}
 use Rattle.pack.specs.Meaning.{meant}
 use Rattle.pack.specs.Said.{Said}
-use Rattle.kept.specs.Sheet.{Sheet, sheetOf}
-use Rattle.kept.specs.Kept.{kept}
-use Rattle.kept.specs.Written.{written}
-use Rattle.kept.specs.Scrubbed.{roomFor, scrubbed, leaves}
-use Rattle.kept.proofs.Sizes.{written-bytes, written-length}
-use Rattle.kept.proofs.Scrubbing.{scrub-is, room-enough, room-short}
-use Rattle.sheet.specs.declared.Asked.{Asked}
-use Rattle.sheet.specs.declared.Asked.the-variants as K
-use Rattle.sheet.specs.Judged.{judged, asks, outcome}
-use Rattle.sheet.proofs.Header.{judged-outcome, judged-holds}
-use Rattle.framing.specs.Laid.{contentAt, framed, sealed, Packed, Packs}
-use Rattle.slots.specs.Slots.{slotsIn}
-use Rattle.slots.proofs.Laws.{length-in}
-use Rattle.reader.specs.declared.Outline.{Outline}
-use Rattle.reader.specs.Shown.{Outlined}
-use Rattle.preparing.specs.Ready.{Accepts, Prepared, Ready}
+use Rattle.scrub_kept.specs.Sheet.{Sheet, sheetOf}
+use Rattle.scrub_kept.specs.Kept.{kept}
+use Rattle.scrub_kept.specs.Written.{written}
+use Rattle.scrub_kept.specs.Scrubbed.{roomFor, scrubbed, leaves}
+use Rattle.scrub_kept.proofs.Sizes.{written-bytes, written-length}
+use Rattle.scrub_kept.proofs.Scrubbing.{scrub-is, room-enough, room-short}
+use Rattle.scrub_sheet.specs.declared.Asked.{Asked}
+use Rattle.scrub_sheet.specs.declared.Asked.the-variants as K
+use Rattle.scrub_sheet.specs.Judged.{judged, asks, outcome}
+use Rattle.scrub_sheet.proofs.Header.{judged-outcome, judged-holds}
+use Rattle.scrub_write.specs.Laid.{contentAt, framed, sealed, Packed, Packs}
+use Rattle.pack_slots.specs.Slots.{slotsIn}
+use Rattle.pack_slots.proofs.Laws.{length-in}
+use Rattle.pack_read.specs.declared.Outline.{Outline}
+use Rattle.pack_read.specs.Shown.{Outlined}
+use Rattle.scrub.specs.Ready.{Accepts, Prepared, Ready}
 use Rattle.scrub.specs.Scrubs.{Scrubs, isRefused, Good}
 
 -- THE SHEET

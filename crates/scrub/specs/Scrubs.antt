@@ -1,5 +1,4 @@
 -- What a scrub promises.
--- Assumes nothing.
 use mathlib.Core.Path.{_≡_}
 use mathlib.Core.List.{List}
 use mathlib.Core.Bool.{Bool, true, false}
@@ -7,11 +6,11 @@ use Prim.Native.Nat.{ℕ}
 use lib.ListN.{length}
 use Rattle.refusals.specs.declared.Answer.{Answer}
 use Rattle.refusals.specs.Outcomes.{fine}
-use Rattle.kept.specs.Sheet.{sheetOf}
-use Rattle.kept.specs.Scrubbed.{scrubbed, scrubAnswer, leaves}
-use Rattle.sheet.specs.declared.Asked.{Asked}
-use Rattle.sheet.specs.declared.Asked.the-variants as K
-use Rattle.sheet.specs.Judged.{asks, Holds}
+use Rattle.scrub_kept.specs.Sheet.{sheetOf}
+use Rattle.scrub_kept.specs.Scrubbed.{scrubbed, scrubAnswer, leaves}
+use Rattle.scrub_sheet.specs.declared.Asked.{Asked}
+use Rattle.scrub_sheet.specs.declared.Asked.the-variants as K
+use Rattle.scrub_sheet.specs.Judged.{asks, Holds}
 
 -- the answer and the buffer are those of the scrub of the pack s by the bytes of a sheet
 pub record Scrubs (sheet s before : List ℕ) (r : Answer) (after : List ℕ) : Type 0 where

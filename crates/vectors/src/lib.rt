@@ -46,7 +46,7 @@ fn repeated(block: &[u8], times: usize, out: &mut [u8], from: usize) -> usize
         if out.len() - n < block.len() {
             return n;
         }
-        n = lists::copy(&mut *out, n, block);
+        n = runs::copy(&mut *out, n, block);
         t += 1;
     }
     n

@@ -1,5 +1,4 @@
 -- `ballastwren::bw_gain` meets its contract: each case of the level is told by its three numbers, and the half decibels fit 32 bits.
--- Assumes nothing.
 use Prim.Native.Nat.{ℕ}
 use mathlib.Core.Path.{sym, ap, _∙_}
 use borrow.Author.Needs.{needs}

@@ -1,5 +1,4 @@
 -- `ballastwren::told_answer` meets its contract: each case of the answer is told by document 01's two numbers.
--- Assumes nothing.
 use Prim.Native.Nat.{ℕ}
 use mathlib.Core.Path.{ap, sym, _∙_}
 use Rattle.ballastwren.specs.Told.{toldOf}

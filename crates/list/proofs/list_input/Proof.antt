@@ -1,6 +1,5 @@
 -- `list::list_input` is safe and ends: what was read never passes the end, and each turn brings the two nearer. The end is the buffer's until the
 -- input has none left.
--- Assumes nothing.
 use mathlib.Core.Path.{_≡_}
 use Prim.Native.Nat.{_≤_, _-_}
 use native.Mathlib.Omega.{arith}

@@ -1,5 +1,4 @@
 -- `scrub::scrub` meets its contract. By the sheet's judgement and the pack's answer.
--- Assumes nothing.
 use mathlib.Core.Path.{sym, _∙_}
 use borrow.Author.Needs.{needs}
 use Rattle.scrub.specs.Scrubs.{Good}

@@ -1,10 +1,9 @@
 -- `scrub::write_kept` meets its contract. The room is asked for before anything is written.
--- Assumes nothing.
 use mathlib.Core.Path.{refl}
 use mathlib.Core.Logic.{inl, inr}
 use native.Mathlib.Omega.{arith}
 use borrow.Author.Needs.{needs}
-use Rattle.framing.proofs.Entries.{length-small}
+use Rattle.scrub_write.proofs.Entries.{length-small}
 use Rattle.scrub.proofs.Outcome.{size-small, no-room, rows-few, packs, labels-few, wrote}
 use borrow.Author.Needs.{needs}
 use Rattle.scrub.proofs.write_kept.Statement.{statement}

@@ -1,5 +1,4 @@
 -- `vectors::joined` is safe and ends: both places stay within their slices, and the length of the run does not change.
--- Assumes nothing.
 use Prim.Native.Nat.{_≤_, _-_}
 use mathlib.Core.Path.{_≡_, _∙_}
 use native.Mathlib.Omega.{arith}

@@ -1,5 +1,4 @@
 -- `vectors::taken` is safe and ends: both places stay within their slices.
--- Assumes nothing.
 use Prim.Native.Nat.{_≤_, _-_}
 use mathlib.Core.Path.{_≡_, _∙_}
 use native.Mathlib.Omega.{arith}

@@ -1,5 +1,0 @@
-pub mod Outcomes
-pub mod Inside
-pub mod Coming
-mod Counting
-mod Whole

@@ -1,3 +1,0 @@
-pub mod Entries
-pub mod Close
-pub mod Whole

@@ -1,7 +1,0 @@
-pub mod Fields
-pub mod Rows
-pub mod Shown
-pub mod Whole
-pub mod Within
-pub mod Worked
-pub mod One

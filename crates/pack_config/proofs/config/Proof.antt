@@ -1,0 +1,53 @@
+-- `pack_config::config` meets its contract: a Config that is too short, or its mappings.
+use Prim.Native.Nat.{_+_, _-_}
+use native.Mathlib.Omega.{arith}
+use lib.ListN.{length-take}
+use denote.Ref.{now}
+use Rattle.pack_config.proofs.Maps.{read-refused}
+use Rattle.pack_config.proofs.Openings.{maps-short, maps-long}
+use borrow.Author.Needs.{needs}
+use Rattle.pack_config.proofs.config.Statement.{statement}
+use Rattle.pack_config.proofs.config.Tie as tie
+
+refuse-requires : tie.Need-refuse-requires
+refuse-requires c κs = search needs
+
+returns : tie.Need-returns
+returns c = read-refused (maps-short _ _ _ _ (c .before .if1 .taken)) (c .refuse .ensures)
+
+add-end : tie.Need-add-end
+add-end c = search needs
+
+sub-mappings : tie.Need-sub-mappings
+sub-mappings c = search needs
+
+part-mappings-start : tie.Need-part-mappings-start
+part-mappings-start c = search needs
+
+part-mappings-end : tie.Need-part-mappings-end
+part-mappings-end c = search needs
+
+add-mappings : tie.Need-add-mappings
+add-mappings c = search needs
+
+mappings-requires : tie.Need-mappings-requires
+mappings-requires c κs = search needs
+
+returns-2 : tie.Need-returns-2
+returns-2 c =
+    let a = c .before .before .before .before .before .before .before .args in
+    maps-long (now (a .s)) (a .at) (a .value-start) (a .value-len) (a .value-start + a .value-len - 0) (c .before .before .before .before .before .if1 .left) (omega arith) (c .mappings .ensures (a .value-len) (simp length-take (omega arith)))
+
+pub config-spec : {M : Type 1} → statement M
+config-spec =
+    tie.close
+    (tie.spec
+    refuse-requires
+    returns
+    add-end
+    sub-mappings
+    part-mappings-start
+    part-mappings-end
+    add-mappings
+    mappings-requires
+    returns-2)

@@ -1,0 +1,140 @@
+-- What every accepted pack keeps to: its caps, where its payloads, its Syncs and its labels lie, and which names its payloads have.
+use mathlib.Core.Path.{_≡_, refl, sym, ap, subst, _∙_}
+use mathlib.Core.List.{List, [], _∷_, map}
+use mathlib.Core.Bool.{Bool}
+use Prim.Native.Nat.{ℕ, suc, _+_, _-_, _^_, _<_, _≤_, min}
+use native.Mathlib.Nat.{zero-add, suc-add, add-suc}
+use native.Mathlib.Omega.{arith}
+use lib.Dec.{eqb}
+use lib.ListN.{length, take, drop, length-take, length-drop, length-map}
+use Rattle.runs.specs.Those.{Each}
+use Rattle.runs.specs.Digits.{Bytes}
+use Rattle.runs.proofs.Cases.{split}
+use Rattle.runs.proofs.Below.{below-take}
+use Rattle.runs.proofs.Stands.{stands-within}
+use Rattle.refusals.specs.Outcomes.{fine}
+use Rattle.numbers.proofs.Big.{big-lt}
+use Rattle.pack.specs.Fixed.{packCap, itemCap, mappingCap}
+use Rattle.pack.specs.declared.Name.{Name}
+use Rattle.pack.specs.declared.Name.the-variants.{Label, Number}
+use Rattle.pack.specs.declared.Payload.{Payload}
+use Rattle.pack.specs.declared.Head.{Head}
+use Rattle.pack.specs.Payloads.{nameFrom, nameOf}
+use Rattle.pack.specs.Config.{Mapping}
+use Rattle.pack.specs.Items.{Part, one, many, syncHead, countOf}
+use Rattle.pack.specs.Reading.{Read, reading}
+use Rattle.pack_layout.specs.Well.{WellEntries}
+use Rattle.pack_layout.proofs.Parts.{part-bytes}
+use Rattle.pack_layout.proofs.Elements.{payload-next, payload-laid}
+use Rattle.pack_layout.proofs.Accepts.{InnersRead, noneInside, nextInside, ItemsRead, ended, closed, nextPlain, nextSync}
+use Rattle.pack_layout.proofs.Opens.{mappingOf, MappingsRead, noneMapped, nextMapped, OpeningRead, noConfigRead, configRead, reading-of}
+use Rattle.pack_layout.proofs.Counts.{items-count, mappings-count}
+use Rattle.pack_layout.proofs.Entries.{entryOf}
+use Rattle.pack_layout.proofs.Described.{entries-well}
+
+-- a label is one of so many mappings, a number none of the fixed tags
+abbrev pub NameFits : ℕ → Name → Type 0
+NameFits mapped (Label i) = i < mapped
+NameFits mapped (Number t) = (3 < t) × (t < 128 ^ 4)
+
+pub record PayloadLies (s : List ℕ) (mapped : ℕ) (x : Payload) : Type 0 where
+  pub starts : x .start < x .«value_start»
+  pub ends : x .«value_start» + x .«value_len» ≤ length s
+  pub named : NameFits mapped (x .name)
+
+pub record HeadLies (s : List ℕ) (h : Head) (xs : List Payload) : Type 0 where
+  pub starts : h .start < h .«value_start»
+  pub ends : h .«value_start» + h .«value_len» ≤ length s
+  pub long : 4 ≤ h .«value_len»
+  pub offset : h .offset < 65536
+  pub duration : h .duration < 65536
+  pub count : h .inside ≡ length xs
+  pub some : 0 < length xs
+
+abbrev pub PartLies : List ℕ → ℕ → Part → Type 0
+PartLies s mapped (one x) = PayloadLies s mapped x
+PartLies s mapped (many h xs) = HeadLies s h xs × Each (PayloadLies s mapped) xs
+
+pub record LabelLies (s : List ℕ) (m : Mapping) : Type 0 where
+  pub ends : m .place + 16 ≤ length s
+  pub is : m .stands ≡ take 16 (drop (m .place) s)
+
+pub start-low : {s : List ℕ} {mapped : ℕ} {x : Payload} → length s ≤ packCap → PayloadLies s mapped x → x .start < packCap
+start-low h p = omega arith
+
+-- what is known of a pack that is accepted
+pub record Accepted (s : List ℕ) (r : Read) : Type 0 where
+  pub small : length s ≤ packCap
+  pub offset : r .offset < 65536
+  pub count : countOf (r .body .parts) ≤ itemCap
+  pub parts : Each (PartLies s (length (r .mappings))) (r .body .parts)
+  pub mapped : length (r .mappings) ≤ mappingCap
+  pub labels : Each (LabelLies s) (r .mappings)
+  pub entries : WellEntries (map entryOf (r .mappings))
+
+name-from-fits : (i : ℕ) (tags : List ℕ) (t : ℕ) → 3 < t → t < 128 ^ 4 → NameFits (i + length tags) (nameFrom i tags t)
+unfolding nameFrom
+name-from-fits i [] t low high = (low, high)
+name-from-fits i (x ∷ tags) t low high =
+    split (eqb x t)
+    (λ a. simp a (let z : i < i + suc (length tags) = omega arith in z))
+    (λ a. simp a (subst (λ (n : ℕ). NameFits n (nameFrom (suc i) tags t)) (suc-add i (length tags) ∙ sym (add-suc i (length tags))) (name-from-fits (suc i) tags t low high)))
+
+name-fits : (tags : List ℕ) (t : ℕ) → 3 < t → t < 128 ^ 4 → NameFits (length tags) (nameOf tags t)
+name-fits tags t low high = subst (λ (n : ℕ). NameFits n (nameOf tags t)) (zero-add (length tags)) (name-from-fits 0 tags t low high)
+
+inners-lie : (s : List ℕ) {q tags : List ℕ} {base at used : ℕ} {xs : List Payload} → Bytes q → base + length q ≤ length s → InnersRead q tags base at used xs
+    → Each (PayloadLies s (length tags)) xs
+inners-lie s b room (noneInside h) = tt
+inners-lie s {q} {tags} b room (nextInside {at = at} t v l e h u r) =
+    let x = payload-next q at t v l e in
+    let d = payload-laid q at t v l b e in
+    (record { starts = omega arith; ends = omega arith; named = name-fits tags t h (d .high) }, inners-lie s b room r)
+
+items-lie : (s : List ℕ) {tags : List ℕ} {at used : ℕ} {parts : List Part} {mark : Bool} → Bytes s → ItemsRead s tags at used parts mark
+    → Each (PartLies s (length tags)) parts
+items-lie s b (ended h) = tt
+items-lie s b (closed v e z c) = tt
+items-lie s {tags} b (nextPlain {at = at} t v l e h u r) =
+    let x = payload-next s at t v l e in
+    let d = payload-laid s at t v l b e in
+    (record { starts = x .0; ends = x .1; named = name-fits tags t h (d .high) }, items-lie s b r)
+items-lie s {tags} b (nextSync {at = at} v l xs e h u n inner r) =
+    let x = payload-next s at 2 v l e in
+    let q = take (l - 4) (drop (v + 4) s) in
+    let room : v + 4 + length q ≤ length s = simp (length-take, length-drop) (omega arith) in
+    let head : HeadLies s (syncHead s at v l xs) xs =
+    record { starts = x .0; ends = x .1; long = h; offset = big-lt s v 2 b; duration = big-lt s (v + 2) 2 b; count = refl; some = n } in
+    ((head, inners-lie s (part-bytes s (v + 4) (l - 4) b) room inner), items-lie s b r)
+
+-- labels that stand in the front of a list stand in it
+labels-lie : {c : List ℕ} {at : ℕ} {seen more : List Mapping} (s : List ℕ) (m : ℕ) → c ≡ take m s → MappingsRead c at seen more → Each (LabelLies s) more
+labels-lie s m front (noneMapped h) = tt
+labels-lie {c} s m front (nextMapped t n few e room apart r) =
+    let long : length c ≡ min m (length s) = ap length front ∙ length-take m s in
+    let label : LabelLies s (mappingOf c t n) = record {
+      ends = omega arith;
+      is = ap (λ (l : List ℕ). take 16 (drop n l)) front ∙ stands-within n 16 m s (omega arith);
+    } in
+    (label, labels-lie s m front r)
+
+opening-lies : (s : List ℕ) {start o next : ℕ} {ms : List Mapping} → Bytes s → OpeningRead s start o ms next
+    → (o < 65536) × (length ms ≤ mappingCap) × Each (LabelLies s) ms × WellEntries (map entryOf ms)
+unfolding WellEntries
+opening-lies s b (noConfigRead none) = (omega arith, omega arith, tt, tt)
+opening-lies s b (configRead v l e h r) =
+    (big-lt s v 2 b, omega (arith, mappings-count r (omega arith)), labels-lie s (v + l) refl r, entries-well (below-take 256 (v + l) s b) r tt)
+
+pub reading-bounds : (s : List ℕ) → Bytes s → (r : Read) → reading s ≡ fine r → Accepted s r
+reading-bounds s b r h =
+    let p = reading-of s r b h in
+    let o = opening-lies s b (p .opens) in
+    record {
+      small = p .begins .small;
+      offset = o .0;
+      count = omega (arith, items-count (p .items) (omega arith));
+      parts = subst (λ (n : ℕ). Each (PartLies s n) (r .body .parts)) (length-map (r .mappings) (λ (m : Mapping). m .tag)) (items-lie s b (p .items));
+      mapped = o .1;
+      labels = o .2;
+      entries = o .3;
+    }

@@ -1,0 +1,13 @@
+-- A result that came of two steps came of a result of the first.
+use mathlib.Core.Path.{_≡_, refl, ap}
+use Rattle.runs.proofs.Cases.{absurd-eq}
+use Rattle.refusals.specs.Outcomes.{Outcome, fine, refused, andThen}
+
+pub after : {A B : Type 0} (o : Outcome A) (next : A → Outcome B) {y : B} → andThen o next ≡ fine y → (x : A) × (o ≡ fine x) × (next x ≡ fine y)
+unfolding andThen
+after (fine x) next h = (x, refl, h)
+after (refused why place) next h = absurd-eq (cc)
+
+pub onward : {A B : Type 0} {o : Outcome A} {x : A} (next : A → Outcome B) → o ≡ fine x → andThen o next ≡ next x
+unfolding andThen
+onward next e = ap (λ (o : Outcome _). andThen o next) e

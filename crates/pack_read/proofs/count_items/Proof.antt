@@ -1,0 +1,221 @@
+-- `pack_read::count_items` meets its contract. The loop keeps what is left (proofs/Coming), for any tags.
+use mathlib.Core.Path.{_≡_, sym, ap, _∙_, subst}
+use native.Mathlib.Omega.{arith}
+use borrow.Author.Needs.{needs}
+use denote.Ref.{now}
+use lib.ListN.{take, drop}
+use Rattle.refusals.specs.declared.Answer.the-variants as A
+use Rattle.pack.specs.Items.{itemAt}
+use Rattle.pack.specs.declared.Step.the-variants as S
+use Rattle.pack.proofs.Payloads.{plain-fits, open-fits, close-ends}
+use Rattle.pack_read.specs.Counts.{counted, InsideCounted}
+use Rattle.pack_read.proofs.Outcomes.{answered-refused, answered-fine}
+use Rattle.pack_read.proofs.Coming.{coming-begins, coming-ends, coming-bad, coming-good, coming-crc, inside-long, inside-part}
+use Rattle.pack_read.proofs.Counting.{counting-plain, inside-refused, inside-none, inside-sync}
+use Prim.Native.Nat.{ℕ, _+_, _-_}
+use mathlib.Core.List.{List, []}
+use lib.ListN.{length}
+use Rattle.pack_read.proofs.Counting.{Counting}
+use Rattle.pack_read.proofs.count_items.Statement.{statement}
+use Rattle.pack_read.proofs.count_items.Tie as tie
+
+abbrev Inv-loop : tie.InvT-loop
+Inv-loop s from n₀ at₀ n at = (tags : List ℕ) → Counting s tags from n at
+
+abbrev μ-loop : tie.MeasureT-loop
+μ-loop s from n₀ at₀ n at = length s - at
+
+-- in each arm, what stands there
+abbrev Plain-at : tie.After-step3 Inv-loop μ-loop → Type 0
+Plain-at c = itemAt (now (c .before .before .before .before .before .before .args .s)) (c .before .before .before .before .loop .at) (c .before .before .before .before .loop .n) ≡ S.Plain (c .step3 .given .0 .0) (c .step3 .given .0 .1 .0) (c .step3 .given .0 .1 .1 .0)
+
+plain : (c : tie.After-step3 Inv-loop μ-loop) → Plain-at c
+plain c = sym (c .before .before .item-at .ensures) ∙ c .step3 .given .1
+
+abbrev Close-at : tie.After-step2 Inv-loop μ-loop → Type 0
+Close-at c = itemAt (now (c .before .before .before .before .before .before .args .s)) (c .before .before .before .before .loop .at) (c .before .before .before .before .loop .n) ≡ S.Close (c .step2 .given .0 .0)
+
+closes : (c : tie.After-step2 Inv-loop μ-loop) → Close-at c
+closes c = sym (c .before .before .item-at .ensures) ∙ c .step2 .given .1
+
+abbrev Open-at : tie.After-step4 Inv-loop μ-loop → Type 0
+Open-at c = itemAt (now (c .before .before .before .before .before .before .args .s)) (c .before .before .before .before .loop .at) (c .before .before .before .before .loop .n) ≡ S.Open (c .step4 .given .0 .0) (c .step4 .given .0 .1 .0)
+
+opens : (c : tie.After-step4 Inv-loop μ-loop) → Open-at c
+opens c = sym (c .before .before .item-at .ensures) ∙ c .step4 .given .1
+
+-- what was counted inside a Sync, of the inside as the definition cuts it
+abbrev Counted-at : tie.After-count-inside Inv-loop μ-loop → Type 0
+Counted-at c =
+    let f = c .before .before .before in
+    InsideCounted (take (f .step4 .given .0 .1 .0 - 4) (drop (f .step4 .given .0 .0 + 4) (now (f .before .before .before .before .before .before .args .s)))) (f .step4 .given .0 .0 + 4) (f .before .before .before .before .loop .n + 1) (c .count-inside .result)
+
+counts : (c : tie.After-count-inside Inv-loop μ-loop) → Counted-at c
+counts c =
+    let f = c .before .before .before in
+    subst (λ (q : List ℕ). InsideCounted q (f .step4 .given .0 .0 + 4) (f .before .before .before .before .loop .n + 1) (c .count-inside .result))
+    (inside-part (now (f .before .before .before .before .before .before .args .s)) (f .step4 .given .0 .0) (f .step4 .given .0 .1 .0)) (c .count-inside .ensures)
+
+loop-holds : tie.Need-loop-holds Inv-loop μ-loop
+loop-holds c = λ tags. record { parts = []; coming = coming-begins _ tags _ }
+
+item-at-requires : tie.Need-item-at-requires Inv-loop μ-loop
+item-at-requires c κs = search needs
+
+enum-known-step : tie.Need-enum-known-step Inv-loop μ-loop
+enum-known-step c = search needs
+
+refuse-requires : tie.Need-refuse-requires Inv-loop μ-loop
+refuse-requires c κs = search needs
+
+returns : tie.Need-returns Inv-loop μ-loop
+returns c =
+    let f = c .before .before in
+    λ tags. answered-refused counted (coming-bad (f .before .before .before .before .loop .inv tags .coming) (f .before .before .before .loop-test .taken) (sym (f .before .before .item-at .ensures) ∙ f .step .given .1)) (c .refuse .ensures)
+
+enum-known-step-2 : tie.Need-enum-known-step-2 Inv-loop μ-loop
+enum-known-step-2 c = search needs
+
+crc-good-requires : tie.Need-crc-good-requires Inv-loop μ-loop
+crc-good-requires c κs = omega (arith, close-ends _ _ _ _ (closes (c .before)))
+
+returns-2 : tie.Need-returns-2 Inv-loop μ-loop
+returns-2 c =
+    let f = c .before .before .before in
+    λ tags.
+    let g = f .before .before .before .before .loop .inv tags .coming in
+    ap A.Done (sym (g .long)) ∙ answered-fine counted (coming-good g (f .before .before .before .loop-test .taken) (closes f) (sym (c .before .crc-good .ensures) ∙ c .if1 .taken))
+
+refuse-requires-2 : tie.Need-refuse-requires-2 Inv-loop μ-loop
+refuse-requires-2 c κs = search needs
+
+returns-3 : tie.Need-returns-3 Inv-loop μ-loop
+returns-3 c =
+    let f = c .before .before .before .before in
+    λ tags.
+    answered-refused counted (coming-crc (f .before .before .before .before .loop .inv tags .coming) (f .before .before .before .loop-test .taken) (closes f) (sym (c .before .before .crc-good .ensures) ∙ c .before .if1 .left)) (c .refuse2 .ensures)
+
+enum-known-step-3 : tie.Need-enum-known-step-3 Inv-loop μ-loop
+enum-known-step-3 c = search needs
+
+add-n : tie.Need-add-n Inv-loop μ-loop
+add-n c = omega (arith, plain-fits _ _ _ _ _ _ (plain (c .before)) .room)
+
+add-at : tie.Need-add-at Inv-loop μ-loop
+add-at c = omega (arith, plain-fits _ _ _ _ _ _ (plain (c .before)) .inside, c .before .before .before .before .before .before .before .pre)
+
+loop-less : tie.Need-loop-less Inv-loop μ-loop
+loop-less c = let f = plain-fits _ _ _ _ _ _ (plain (c .before)) in omega (arith, f .later, f .inside, c .before .before .before .before .loop-test .taken)
+
+loop-again : tie.Need-loop-again Inv-loop μ-loop
+loop-again c = let f = c .before in λ tags. counting-plain (f .before .before .before .before .loop .inv tags) (f .before .before .before .loop-test .taken) (plain f)
+
+enum-known-step-4 : tie.Need-enum-known-step-4 Inv-loop μ-loop
+enum-known-step-4 c = search needs
+
+add-base : tie.Need-add-base Inv-loop μ-loop
+add-base c = let f = open-fits _ _ _ _ _ (opens (c .before)) in omega (arith, f .0 .inside, f .1, c .before .before .before .before .before .before .before .pre)
+
+add-end : tie.Need-add-end Inv-loop μ-loop
+add-end c = let f = open-fits _ _ _ _ _ (opens (c .before)) in omega (arith, f .0 .inside, f .1, c .before .before .before .before .before .before .before .pre)
+
+sub-count-inside : tie.Need-sub-count-inside Inv-loop μ-loop
+sub-count-inside c = let f = open-fits _ _ _ _ _ (opens (c .before)) in omega (arith, f .1)
+
+part-count-inside-start : tie.Need-part-count-inside-start Inv-loop μ-loop
+part-count-inside-start c = let f = open-fits _ _ _ _ _ (opens (c .before)) in omega (arith, f .1)
+
+part-count-inside-end : tie.Need-part-count-inside-end Inv-loop μ-loop
+part-count-inside-end c = let f = open-fits _ _ _ _ _ (opens (c .before)) in omega (arith, f .0 .inside)
+
+add-count-inside : tie.Need-add-count-inside Inv-loop μ-loop
+add-count-inside c = let f = open-fits _ _ _ _ _ (opens (c .before .before)) in omega (arith, f .0 .room)
+
+count-inside-requires : tie.Need-count-inside-requires Inv-loop μ-loop
+count-inside-requires c κs =
+    let f = open-fits _ _ _ _ _ (opens (c .before .before)) in
+    let s = now (c .before .before .before .before .before .before .before .before .args .s) in
+    let l = ap length (inside-part s (c .before .before .step4 .given .0 .0) (c .before .before .step4 .given .0 .1 .0)) in
+    (omega (arith, f .0 .room), omega (arith, l, inside-long s (c .before .before .step4 .given .0 .0) (c .before .before .step4 .given .0 .1 .0) (f .0 .inside) (f .1), f .0 .inside, c .before .before .before .before .before .before .before .before .pre))
+
+enum-known-inside : tie.Need-enum-known-inside Inv-loop μ-loop
+enum-known-inside c = search needs
+
+refuse-requires-3 : tie.Need-refuse-requires-3 Inv-loop μ-loop
+refuse-requires-3 c κs = search needs
+
+returns-4 : tie.Need-returns-4 Inv-loop μ-loop
+returns-4 c =
+    let k = c .before .before .before .before in
+    let f = k .before .before .before in
+    λ tags. inside-refused (f .before .before .before .before .loop .inv tags) (f .before .before .before .loop-test .taken) (opens f) (counts k) (c .before .before .inside .given .1) (c .refuse3 .ensures)
+
+enum-known-inside-2 : tie.Need-enum-known-inside-2 Inv-loop μ-loop
+enum-known-inside-2 c = search needs
+
+add-if2 : tie.Need-add-if2 Inv-loop μ-loop
+add-if2 c = let f = open-fits _ _ _ _ _ (opens (c .before .before .before .before .before .before)) in omega (arith, f .0 .room)
+
+refuse-requires-4 : tie.Need-refuse-requires-4 Inv-loop μ-loop
+refuse-requires-4 c κs = search needs
+
+returns-5 : tie.Need-returns-5 Inv-loop μ-loop
+returns-5 c =
+    let k = c .before .before .before .before .before in
+    let f = k .before .before .before in
+    λ tags. inside-none (f .before .before .before .before .loop .inv tags) (f .before .before .before .loop-test .taken) (opens f) (counts k) (c .before .before .before .inside2 .given .1) (c .before .if2 .taken) (c .refuse4 .ensures)
+
+loop-less-2 : tie.Need-loop-less-2 Inv-loop μ-loop
+loop-less-2 c = let f = open-fits _ _ _ _ _ (opens (c .before .before .before .before .before .before .before)) in omega (arith, f .0 .later, f .0 .inside, c .before .before .before .before .before .before .before .before .before .before .loop-test .taken)
+
+loop-again-2 : tie.Need-loop-again-2 Inv-loop μ-loop
+loop-again-2 c =
+    let k = c .before .before .before .before in
+    let f = k .before .before .before in
+    λ tags. inside-sync (f .before .before .before .before .loop .inv tags) (f .before .before .before .loop-test .taken) (opens f) (counts k) (c .before .before .inside2 .given .1) (c .if2 .left)
+
+returns-6 : tie.Need-returns-6 Inv-loop μ-loop
+returns-6 c =
+    λ tags.
+    let g = c .before .loop .inv tags .coming in
+    ap A.Done (sym (g .long)) ∙ answered-fine counted (coming-ends g (c .loop-test .left))
+
+pub count-items-spec : {M : Type 1} → statement M
+count-items-spec =
+    tie.close
+    (tie.spec
+    Inv-loop
+    μ-loop
+    loop-holds
+    item-at-requires
+    enum-known-step
+    refuse-requires
+    returns
+    enum-known-step-2
+    crc-good-requires
+    returns-2
+    refuse-requires-2
+    returns-3
+    enum-known-step-3
+    add-n
+    add-at
+    loop-less
+    loop-again
+    enum-known-step-4
+    add-base
+    add-end
+    sub-count-inside
+    part-count-inside-start
+    part-count-inside-end
+    add-count-inside
+    count-inside-requires
+    enum-known-inside
+    refuse-requires-3
+    returns-4
+    enum-known-inside-2
+    add-if2
+    refuse-requires-4
+    returns-5
+    loop-less-2
+    loop-again-2
+    returns-6)

@@ -1,0 +1,530 @@
+// The reading of a pack, into lent arrays or by value; and the stretches of the pack that it speaks of.
+ghost use mathlib.Core.Path.{_≡_};
+ghost use mathlib.Core.List.{List};
+ghost use Prim.Native.Nat.{ℕ, _+_, _≤_};
+ghost use lib.ListN.{length, take, replicate};
+ghost use Rattle.refusals.specs.Outcomes.{answered, Outcome, andThen};
+ghost use Rattle.pack.specs.Items.{crcGood, itemsFrom};
+ghost use Rattle.pack.specs.Reading.{openingAt, checked, valueStart, reading, blank, shown};
+ghost use Rattle.pack_read.specs.Counts.{counted, InsideCounted, nextOf, configNext};
+ghost use Rattle.pack.specs.Fixed.{mappingCap};
+ghost use Rattle.pack.specs.Payloads.{payload};
+ghost use Rattle.pack.specs.Meaning.{stretchIn, valueOf, labelAt};
+ghost use Rattle.pack_config.specs.Tables.{Filled, Knows, Empty};
+ghost use Rattle.pack_slots.specs.Slots.{slotsIn};
+ghost use Rattle.pack_read.specs.Shown.{headOf, InsideRead, outlineOf, Outlined, BodyTold, Opens};
+use pack::Found;
+use pack::Head;
+use pack::Item;
+use pack::Name;
+use pack::Payload;
+use pack::Reading;
+use pack::Slot;
+use pack::Step;
+use pack_config::First;
+use refusals::Answer;
+use refusals::Refusal;
+
+// Whether the CRC whose value stands at `at` is that of the pack up to `at`.
+pub fn crc_good(s: &[u8], at: usize) -> bool
+    requires { ⌜ at + 4 ≤ length (now s) ⌝ }
+    ensures { λ r. ⌜ r ≡ crcGood (now (s .entry)) at ⌝ }
+{
+    numbers::be32(s, at) == crc::crc(&s[0..at])
+}
+
+// The payloads of the inside of a Sync, which stands at `base` of the pack: how many items and payloads there are with them, where `used` came
+// before.
+fn count_inside(q: &[u8], base: usize, used: usize) -> Answer
+    requires { ⌜ (used ≤ 64) × (base + length (now q) ≤ 32768) ⌝ }
+    ensures { λ r. ⌜ InsideCounted (now (q .entry)) base used r ⌝ }
+{
+    let mut n = used;
+    let mut at: usize = 0;
+    while at < q.len() {
+        let found = pack::inner_at(q, at, n);
+        match found {
+            Found::Wrong(why) => {
+                return pack::refuse(why, base + at);
+            }
+            Found::Whole {
+                tag: _,
+                value_start,
+                value_len,
+            } => {
+                n += 1;
+                at = value_start + value_len;
+            }
+        }
+    }
+    Answer::Done(n)
+}
+
+// The items of the pack from `from` on.
+fn count_items(s: &[u8], from: usize) -> Answer
+    requires { ⌜ length (now s) ≤ 32768 ⌝ }
+    ensures { λ r. ⌜ ((tags : List ℕ) → r ≡ answered counted (itemsFrom (length (now (s .entry))) (now (s .entry)) tags from 0)) ⌝ }
+{
+    let mut n: usize = 0;
+    let mut at = from;
+    while at < s.len() {
+        let step = pack::item_at(s, at, n);
+        match step {
+            Step::Bad(why) => {
+                return pack::refuse(why, at);
+            }
+            Step::Close { value_start } => {
+                if crc_good(s, value_start) {
+                    return Answer::Done(n);
+                }
+                return pack::refuse(Refusal::Crc, at);
+            }
+            Step::Plain {
+                tag: _,
+                value_start,
+                value_len,
+            } => {
+                n += 1;
+                at = value_start + value_len;
+            }
+            Step::Open {
+                value_start,
+                value_len,
+            } => {
+                let base = value_start + 4;
+                let end = value_start + value_len;
+                let inside = count_inside(&s[base..end], base, n + 1);
+                match inside {
+                    Answer::Refused { why, place } => {
+                        return pack::refuse(why, place);
+                    }
+                    Answer::Done(k) => {
+                        if k == n + 1 {
+                            return pack::refuse(Refusal::Sync, at);
+                        }
+                        n = k;
+                        at = end;
+                    }
+                }
+            }
+        }
+    }
+    Answer::Done(n)
+}
+
+// The Config at `at`: where the items start.
+fn check_config(s: &[u8], at: usize, value_start: usize, value_len: usize) -> Answer
+    requires { ⌜ («value_start» + «value_len» ≤ length (now s)) × (length (now s) ≤ 32768) ⌝ }
+    ensures { λ r. ⌜ r ≡ answered nextOf (configNext (now (s .entry)) at «value_start» «value_len») ⌝ }
+{
+    let mut tags = [0u32; 32];
+    let mut places = [0u32; 32];
+    let mut known = [0u8; 128];
+    let read = pack_config::config(
+        s,
+        at,
+        value_start,
+        value_len,
+        &mut tags,
+        &mut places,
+        &mut known,
+    );
+    match read {
+        Answer::Refused { why, place } => pack::refuse(why, place),
+        Answer::Done(_) => Answer::Done(value_start + value_len),
+    }
+}
+
+// Where the items of the pack's value at `at` start: after Config, if there is one.
+fn check_opening(s: &[u8], at: usize) -> Answer
+    requires { ⌜ length (now s) ≤ 32768 ⌝ }
+    ensures { λ r. ⌜ r ≡ answered nextOf (openingAt (now (s .entry)) at) ⌝ }
+{
+    let first = pack_config::first_at(s, at);
+    match first {
+        First::Other => Answer::Done(at),
+        First::Config {
+            value_start,
+            value_len,
+        } => check_config(s, at, value_start, value_len),
+    }
+}
+
+// The answer alone: how many items and inner payloads the pack has, or the refusal and its place.
+pub fn check(pack: &[u8]) -> Answer
+    ensures { λ r. ⌜ r ≡ checked (now (pack .entry)) ⌝ }
+{
+    let start = pack::value_start(pack);
+    match start {
+        Answer::Refused { why, place } => pack::refuse(why, place),
+        Answer::Done(at) => {
+            let opening = check_opening(pack, at);
+            match opening {
+                Answer::Refused { why, place } => pack::refuse(why, place),
+                Answer::Done(next) => count_items(pack, next),
+            }
+        }
+    }
+}
+
+// How a pack opens: its offset, how many mappings it has and where its items start, or the refusal.
+pub enum Opened {
+    From {
+        offset: u16,
+        mapped: usize,
+        next: usize,
+    },
+    Refused {
+        why: Refusal,
+        place: usize,
+    },
+}
+
+// What is read of a pack beside its slots and its mappings: the count of items and inner payloads or the refusal, the pack's offset, whether a CRC
+// stood there, and how many mappings there are.
+pub struct Outline {
+    pub answer: Answer,
+    pub offset: u16,
+    pub crc: bool,
+    pub mapped: u32,
+}
+
+// The outline of a pack that is refused.
+fn stopped(why: Refusal, place: usize) -> Outline
+    ensures { λ r. ⌜ r ≡ outlineOf (shown (Outcome.refused why place)) ⌝ }
+{
+    Outline {
+        answer: Answer::Refused { why, place },
+        offset: 0,
+        crc: false,
+        mapped: 0,
+    }
+}
+
+// The slots of a reading that has no items.
+fn blanks() -> [Slot; 64]
+    ensures { λ r. ⌜ r ≡ replicate 64 blank ⌝ }
+{
+    let x = Payload {
+        name: Name::Number(0),
+        start: 0,
+        value_start: 0,
+        value_len: 0,
+    };
+    let i = Item::Single(x);
+    let s = Slot { item: i };
+    [s; 64]
+}
+
+// The reading of a pack that is refused.
+fn refused(why: Refusal, place: usize) -> Reading
+    ensures { λ r. ⌜ r ≡ shown (Outcome.refused why place) ⌝ }
+{
+    let items = blanks();
+    let tags = [0u32; 32];
+    let labels = [0u32; 32];
+    Reading {
+        answer: Answer::Refused { why, place },
+        offset: 0,
+        crc: false,
+        mapped: 0,
+        tags,
+        labels,
+        items,
+    }
+}
+
+// A payload by the tables of the mappings.
+fn payload(
+    tags: &[u32; 32],
+    mapped: usize,
+    known: &[u8; 128],
+    tag: u32,
+    start: usize,
+    value_start: usize,
+    value_len: usize,
+) -> Payload
+    requires { ⌜ Filled mapped (now tags) × Knows (take mapped (now tags)) (now known) × (start + («value_start» + «value_len») ≤ 65536) ⌝ }
+    ensures { λ r. ⌜ r ≡ payload (take mapped (now (tags .entry))) start tag «value_start» «value_len» ⌝ }
+{
+    let name = pack_config::name_by(tags, mapped, known, tag);
+    Payload {
+        name,
+        start: start as u32,
+        value_start: value_start as u32,
+        value_len: value_len as u32,
+    }
+}
+
+// A Sync, with so many payloads inside.
+fn head(s: &[u8], at: usize, value_start: usize, value_len: usize, inside: usize) -> Head
+    requires { ⌜ («value_start» + 4 ≤ length (now s)) × (at + («value_start» + «value_len») ≤ 65536) × (inside ≤ 64) ⌝ }
+    ensures { λ r. ⌜ r ≡ headOf (now (s .entry)) at «value_start» «value_len» inside ⌝ }
+{
+    Head {
+        start: at as u32,
+        value_start: value_start as u32,
+        value_len: value_len as u32,
+        offset: numbers::be16(s, value_start),
+        duration: numbers::be16(s, value_start + 2),
+        inside: inside as u32,
+    }
+}
+
+// The payloads of the inside of a Sync, which stands at `base` of the pack, into the slots from `used` on: how many slots are used with them.
+fn read_inside(
+    q: &[u8],
+    base: usize,
+    used: usize,
+    mapped: usize,
+    tags: &[u32; 32],
+    known: &[u8; 128],
+    slots: &mut [u32; 512],
+) -> Answer
+    requires { ⌜ (used ≤ 64) × (base + length (now q) ≤ 32768) × Filled mapped (now tags) × Knows (take mapped (now tags)) (now known) ⌝ }
+    ensures { λ r. ⌜ InsideRead (now (q .entry)) (take mapped (now (tags .entry))) base used r (slotsIn (now (slots .entry))) (slotsIn (now (slots .exit))) ⌝ }
+{
+    let mut k = used;
+    let mut j: usize = 0;
+    while j < q.len() {
+        let found = pack::inner_at(q, j, k);
+        match found {
+            Found::Wrong(why) => {
+                return pack::refuse(why, base + j);
+            }
+            Found::Whole {
+                tag,
+                value_start,
+                value_len,
+            } => {
+                let x = payload(
+                    tags,
+                    mapped,
+                    known,
+                    tag,
+                    base + j,
+                    base + value_start,
+                    value_len,
+                );
+                let i = Item::Inner(x);
+                pack_slots::put(&mut *slots, k, i);
+                k += 1;
+                j = value_start + value_len;
+            }
+        }
+    }
+    Answer::Done(k)
+}
+
+// The items of the pack from `from` on, into `slots`, which come empty. The inside of a Sync is handed to its reader as a part on its own.
+fn read_items(
+    s: &[u8],
+    from: usize,
+    offset: u16,
+    mapped: usize,
+    tags: &[u32; 32],
+    known: &[u8; 128],
+    slots: &mut [u32; 512],
+) -> Outline
+    requires { ⌜ (length (now s) ≤ 32768) × Filled mapped (now tags) × Knows (take mapped (now tags)) (now known) × (now slots ≡ replicate 512 0) ⌝ }
+    ensures { λ r. ⌜ BodyTold offset mapped (now (tags .entry)) (itemsFrom (length (now (s .entry))) (now (s .entry)) (take mapped (now (tags .entry))) from 0) r (now (slots .exit)) ⌝ }
+{
+    let mut crc = false;
+    let mut n: usize = 0;
+    let mut at = from;
+    while at < s.len() {
+        let step = pack::item_at(s, at, n);
+        match step {
+            Step::Bad(why) => {
+                return stopped(why, at);
+            }
+            Step::Close { value_start } => {
+                if !crc_good(s, value_start) {
+                    return stopped(Refusal::Crc, at);
+                }
+                crc = true;
+                at = s.len();
+            }
+            Step::Plain {
+                tag,
+                value_start,
+                value_len,
+            } => {
+                let x = payload(tags, mapped, known, tag, at, value_start, value_len);
+                let i = Item::Single(x);
+                pack_slots::put(&mut *slots, n, i);
+                n += 1;
+                at = value_start + value_len;
+            }
+            Step::Open {
+                value_start,
+                value_len,
+            } => {
+                let base = value_start + 4;
+                let end = value_start + value_len;
+                let inside = read_inside(
+                    &s[base..end],
+                    base,
+                    n + 1,
+                    mapped,
+                    tags,
+                    known,
+                    &mut *slots,
+                );
+                match inside {
+                    Answer::Refused { why, place } => {
+                        return stopped(why, place);
+                    }
+                    Answer::Done(k) => {
+                        if k == n + 1 {
+                            return stopped(Refusal::Sync, at);
+                        }
+                        let h = head(s, at, value_start, value_len, k - (n + 1));
+                        let i = Item::Sync(h);
+                        pack_slots::put(&mut *slots, n, i);
+                        n = k;
+                        at = end;
+                    }
+                }
+            }
+        }
+    }
+    Outline {
+        answer: Answer::Done(n),
+        offset,
+        crc,
+        mapped: mapped as u32,
+    }
+}
+
+// How the pack opens. The mappings go into the three tables, which come empty.
+fn open(pack: &[u8], tags: &mut [u32; 32], places: &mut [u32; 32], known: &mut [u8; 128]) -> Opened
+    requires { ⌜ Empty (now tags) (now places) (now known) ⌝ }
+    ensures { λ r. ⌜ Opens (andThen (valueStart (now (pack .entry))) (openingAt (now (pack .entry)))) r (now (tags .exit)) (now (places .exit)) (now (known .exit)) ⌝ }
+{
+    let start = pack::value_start(pack);
+    match start {
+        Answer::Refused { why, place } => Opened::Refused { why, place },
+        Answer::Done(at) => {
+            let first = pack_config::first_at(pack, at);
+            match first {
+                First::Other => Opened::From {
+                    offset: 0,
+                    mapped: 0,
+                    next: at,
+                },
+                First::Config {
+                    value_start,
+                    value_len,
+                } => {
+                    let maps = pack_config::config(
+                        pack,
+                        at,
+                        value_start,
+                        value_len,
+                        tags,
+                        places,
+                        known,
+                    );
+                    match maps {
+                        Answer::Refused { why, place } => Opened::Refused { why, place },
+                        Answer::Done(mapped) => Opened::From {
+                            offset: numbers::be16(pack, value_start),
+                            mapped,
+                            next: value_start + value_len,
+                        },
+                    }
+                }
+            }
+        }
+    }
+}
+
+// The reading of a pack, its slots as numbers in `slots`, the tags of its mappings in `tags`, and where their labels stand in `places`. All three
+// come empty; what they hold after a refusal is not told.
+pub fn read_into(
+    pack: &[u8],
+    slots: &mut [u32; 512],
+    tags: &mut [u32; 32],
+    places: &mut [u32; 32],
+) -> Outline
+    requires { ⌜ (now slots ≡ replicate 512 0) × (now tags ≡ replicate mappingCap 0) × (now places ≡ replicate mappingCap 0) ⌝ }
+    ensures { λ r. ⌜ Outlined (now (pack .entry)) r (now (slots .exit)) (now (tags .exit)) (now (places .exit)) ⌝ }
+{
+    let mut known = [0u8; 128];
+    let opened = open(pack, &mut *tags, &mut *places, &mut known);
+    match opened {
+        Opened::Refused { why, place } => stopped(why, place),
+        Opened::From {
+            offset,
+            mapped,
+            next,
+        } => read_items(pack, next, offset, mapped, tags, &known, slots),
+    }
+}
+
+// The slots of an array of numbers, as structs.
+fn listed(slots: &[u32; 512]) -> [Slot; 64]
+    ensures { λ r. ⌜ r ≡ slotsIn (now (slots .entry)) ⌝ }
+{
+    let mut items = blanks();
+    let mut i: usize = 0;
+    while i < 64 {
+        let item = pack_slots::item(slots, i);
+        items[i] = Slot { item };
+        i += 1;
+    }
+    items
+}
+
+// The reading of a pack: its offset, its mappings, its items in order and whether a CRC stood there, or the refusal and its place.
+pub fn read(pack: &[u8]) -> Reading
+    ensures { λ r. ⌜ r ≡ shown (reading (now (pack .entry))) ⌝ }
+{
+    let mut slots = [0u32; 512];
+    let mut tags = [0u32; 32];
+    let mut places = [0u32; 32];
+    let found = read_into(pack, &mut slots, &mut tags, &mut places);
+    let answer = found.answer;
+    if let Answer::Refused { why, place } = answer {
+        return refused(why, place);
+    }
+    let items = listed(&slots);
+    Reading {
+        answer,
+        offset: found.offset,
+        crc: found.crc,
+        mapped: found.mapped,
+        tags,
+        labels: places,
+        items,
+    }
+}
+
+// The stretch of so many bytes from `start` on: no bytes, if it does not lie in the pack.
+fn stretch(pack: &[u8], start: usize, len: usize) -> &[u8]
+    ensures { λ r. ⌜ now r ≡ stretchIn (now (pack .entry)) start len ⌝ }
+{
+    if pack.len() < start {
+        return &pack[0..0];
+    }
+    if pack.len() - start < len {
+        return &pack[0..0];
+    }
+    let end = start + len;
+    &pack[start..end]
+}
+
+// A payload's value: the very stretch of the pack that it was read from.
+pub fn value(pack: &[u8], x: Payload) -> &[u8]
+    ensures { λ r. ⌜ now r ≡ valueOf (now (pack .entry)) x ⌝ }
+{
+    stretch(pack, x.value_start as usize, x.value_len as usize)
+}
+
+// The label of a mapping, by its place in the pack.
+pub fn label(pack: &[u8], place: u32) -> &[u8]
+    ensures { λ r. ⌜ now r ≡ labelAt (now (pack .entry)) place ⌝ }
+{
+    stretch(pack, place as usize, 16)
+}

@@ -1,0 +1,34 @@
+-- `pmd::row_of` meets its contract: each arm by the kind that the match found.
+use mathlib.Core.Path.{_≡_, sym, subst}
+use borrow.Author.Needs.{needs}
+use Rattle.pmd.specs.declared.Kind.{Kind}
+use Rattle.pmd.specs.declared.Row.{Row}
+use Rattle.pmd.specs.Rows.{RowFor}
+use Rattle.pmd.proofs.row_of.Statement.{statement}
+use Rattle.pmd.proofs.row_of.Tie as tie
+
+found : {kind other : Kind} {row : Row} → kind ≡ other → RowFor other row → RowFor kind row
+found {kind} {other} {row} e h = subst (λ (k : Kind). RowFor k row) (sym e) h
+
+pub row-of-spec : {M : Type 1} → statement M
+row-of-spec =
+    tie.close
+    (tie.spec
+    (λ c. search needs)
+    (λ c κs. search needs)
+    (λ c. search needs)
+    (λ c κs. search needs)
+    (λ c. search needs)
+    (λ c κs. search needs)
+    (λ c. search needs)
+    (λ c κs. search needs)
+    (λ c. search needs)
+    (λ c κs. search needs)
+    (λ c. search needs)
+    (λ c κs. search needs)
+    (λ c. found (c .before .enum-told .given .1) (c .apd .ensures))
+    (λ c. found (c .before .enum-told2 .given .1) (c .apn .ensures))
+    (λ c. found (c .before .enum-told3 .given .1) (c .aod .ensures))
+    (λ c. found (c .before .enum-told4 .given .1) (c .xyz .ensures))
+    (λ c. found (c .before .enum-told5 .given .1) (c .aen .ensures))
+    (λ c. found (c .before .enum-told6 .given .1) (c .esn .ensures)))

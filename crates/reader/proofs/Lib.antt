@@ -1,5 +1,0 @@
-pub mod One
-pub mod Outlines
-mod Slots
-mod Listing
-mod Opening

@@ -1,0 +1,120 @@
+-- Laws of `over`: nothing written, one byte, one run after another, and the turns of loops that copy or fill.
+use mathlib.Core.Path.{_≡_, refl, sym, ap, ap₂, _∙_}
+use mathlib.Core.List.{List, [], _∷_, _++_, append-assoc, append-nil}
+use Prim.Native.Nat.{ℕ, _+_, _-_, _≤_, _<_}
+use native.Mathlib.Omega.{arith}
+use native.Mathlib.Numerals.{add-one}
+use native.Mathlib.Nat.{add-assoc, add-zero}
+use lib.ListN.{length, take, drop, set, replicate, getD, replicate-append-replicate, length-append, length-drop, length-replicate, take-append-drop, drop-of-length-le}
+use lib.Seq.{drop-append-le, length-take-le, take-at, drop-at, drop-drop, set-split, take-suc, sets, sets-eq}
+use Rattle.runs.specs.Over.{over, Wrote}
+
+pub over-nil : (xs : List ℕ) (a : ℕ) → over xs a [] ≡ xs
+unfolding over
+over-nil xs a = rw add-zero (take-append-drop a xs)
+
+pub over-one : (xs : List ℕ) (a b : ℕ) → a < length xs → set xs a b ≡ over xs a (b ∷ [])
+unfolding over
+over-one xs a b h = rw (set-split, add-one)
+
+-- stores one after the other
+pub stores-over : (xs : List ℕ) (a : ℕ) (ys : List ℕ) → a + length ys ≤ length xs → sets xs a ys ≡ over xs a ys
+unfolding over
+stores-over xs a ys h = sets-eq ys xs a h ∙ append-assoc (take a xs) ys (drop (a + length ys) xs)
+
+pub length-over : (xs : List ℕ) (a : ℕ) (ys : List ℕ) → a + length ys ≤ length xs → length (over xs a ys) ≡ length xs
+unfolding over
+length-over xs a ys h = simp (length-append, length-drop) (omega (arith, length-take-le a xs (omega arith)))
+
+-- what stands up to the end of the run, and what stands after it
+pub take-over : (xs : List ℕ) (a : ℕ) (ys : List ℕ) → a ≤ length xs → take (a + length ys) (over xs a ys) ≡ take a xs ++ ys
+unfolding over
+take-over xs a ys h =
+    let p = take a xs in
+    ap (take (a + length ys)) (sym (append-assoc p ys (drop (a + length ys) xs)))
+    ∙ take-at (p ++ ys) (drop (a + length ys) xs) (a + length ys) (length-append p ys ∙ ap (λ (k : ℕ). k + length ys) (length-take-le a xs h))
+
+pub drop-over : (xs : List ℕ) (a : ℕ) (ys : List ℕ) → a ≤ length xs → drop (a + length ys) (over xs a ys) ≡ drop (a + length ys) xs
+unfolding over
+drop-over xs a ys h =
+    let p = take a xs in
+    ap (drop (a + length ys)) (sym (append-assoc p ys (drop (a + length ys) xs)))
+    ∙ drop-at (p ++ ys) (drop (a + length ys) xs) (a + length ys) (length-append p ys ∙ ap (λ (k : ℕ). k + length ys) (length-take-le a xs h))
+
+-- one run after the other
+pub over-over : (xs : List ℕ) (a : ℕ) (ys zs : List ℕ) → a ≤ length xs → over (over xs a ys) (a + length ys) zs ≡ over xs a (ys ++ zs)
+unfolding over
+over-over xs a ys zs h =
+    let t = over xs a ys in
+    let rest : drop (a + length ys + length zs) t ≡ drop (a + length (ys ++ zs)) xs =
+    sym (drop-drop (length zs) (a + length ys) t) ∙ ap (drop (length zs)) (drop-over xs a ys h) ∙ drop-drop (length zs) (a + length ys) xs
+    ∙ ap (λ (n : ℕ). drop n xs) (add-assoc a (length ys) (length zs) ∙ ap (λ (n : ℕ). a + n) (sym (length-append ys zs))) in
+    ap₂ (λ (f r : List ℕ). f ++ (zs ++ r)) (take-over xs a ys h) rest ∙ simp append-assoc
+
+-- a run that is as long as the list
+pub over-all : (xs ys : List ℕ) → length ys ≡ length xs → over xs 0 ys ≡ ys
+unfolding over
+over-all xs ys h = ap (λ (l : List ℕ). ys ++ l) (drop-of-length-le xs {i = 0 + length ys} (omega arith)) ∙ append-nil ys
+
+-- a turn of a loop that copies
+pub over-copy : (xs : List ℕ) (a : ℕ) (s : List ℕ) (i : ℕ) → a + i < length xs → i < length s
+    → set (over xs a (take i s)) (a + i) (getD s i 0) ≡ over xs a (take (i + 1) s)
+over-copy xs a s i h hi =
+    let e : length (take i s) ≡ i = length-take-le i s (omega arith) in
+    let l : length (over xs a (take i s)) ≡ length xs = length-over xs a (take i s) (omega arith) in
+    over-one (over xs a (take i s)) (a + i) (getD s i 0) (omega arith)
+    ∙ ap (λ (k : ℕ). over (over xs a (take i s)) (a + k) (getD s i 0 ∷ [])) (sym e)
+    ∙ over-over xs a (take i s) (getD s i 0 ∷ []) (omega arith)
+    ∙ ap (over xs a) (sym (ap (λ (k : ℕ). take k s) (add-one i) ∙ take-suc s i 0 hi))
+
+-- a turn of a loop that repeats b
+pub over-fill : (xs : List ℕ) (a b k : ℕ) → a + k < length xs
+    → set (over xs a (replicate k b)) (a + k) b ≡ over xs a (replicate (k + 1) b)
+over-fill xs a b k h =
+    let e : length (replicate k b) ≡ k = length-replicate k b in
+    let l : length (over xs a (replicate k b)) ≡ length xs = length-over xs a (replicate k b) (omega arith) in
+    over-one (over xs a (replicate k b)) (a + k) b (omega arith)
+    ∙ ap (λ (n : ℕ). over (over xs a (replicate k b)) (a + n) (b ∷ [])) (sym e)
+    ∙ over-over xs a (replicate k b) (b ∷ []) (omega arith)
+    ∙ ap (over xs a) (replicate-append-replicate k 1 b)
+
+-- a run at the start of a part that was lent, seen from the whole
+pub over-part : (xs : List ℕ) (a k : ℕ) (ys : List ℕ) → a + k ≤ length xs → length ys ≤ k
+    → take a xs ++ (over (take k (drop a xs)) 0 ys ++ drop k (drop a xs)) ≡ over xs a ys
+unfolding over
+over-part xs a k ys h hy =
+    let d = drop a xs in
+    let l : length (take k d) ≡ k = length-take-le k d (simp length-drop (omega arith)) in
+    let z : 0 + length ys ≡ length ys = omega arith in
+    let e : drop (0 + length ys) (take k d) ++ drop k d ≡ drop (a + length ys) xs =
+    sym (drop-append-le (0 + length ys) (take k d) (drop k d) (omega arith))
+    ∙ ap (drop (0 + length ys)) (take-append-drop k d) ∙ ap (λ (n : ℕ). drop n d) z ∙ drop-drop (length ys) a xs in
+    ap (λ (r : List ℕ). take a xs ++ r) (append-assoc ys (drop (0 + length ys) (take k d)) (drop k d) ∙ ap (λ (r : List ℕ). ys ++ r) e)
+
+-- two outcomes that meet a writer's promise coincide
+pub wrote-one : {xs ys : List ℕ} {at a b : ℕ} {us vs : List ℕ} → Wrote xs at ys a us → Wrote xs at ys b vs → (a ≡ b) × (us ≡ vs)
+wrote-one p q = (p .next ∙ sym (q .next), p .buffer ∙ sym (q .buffer))
+
+-- nothing written
+pub wrote-none : (xs : List ℕ) (at : ℕ) → Wrote xs at [] at xs
+wrote-none xs at = record { next = sym (add-zero at); buffer = sym (over-nil xs at) }
+
+-- one byte written
+pub wrote-byte : (xs : List ℕ) (at b : ℕ) → at < length xs → Wrote xs at (b ∷ []) (at + 1) (set xs at b)
+wrote-byte xs at b h = record { next = refl; buffer = over-one xs at b h }
+
+-- two runs, one after the other
+pub wrote-then : {xs us vs : List ℕ} {at m n : ℕ} (ys zs : List ℕ) → at + length ys ≤ length xs → Wrote xs at ys m us → Wrote us m zs n vs → Wrote xs at (ys ++ zs) n vs
+wrote-then {xs} {us} {vs} {at} {m} {n} ys zs h p q = record {
+  next = q .next ∙ ap (λ (k : ℕ). k + length zs) (p .next) ∙ add-assoc at (length ys) (length zs) ∙ ap (λ (k : ℕ). at + k) (sym (length-append ys zs));
+  buffer =
+      q .buffer ∙ ap (λ (k : ℕ). over us k zs) (p .next) ∙ ap (λ (l : List ℕ). over l (at + length ys) zs) (p .buffer) ∙ over-over xs at ys zs (omega arith);
+}
+
+-- the same bytes, said otherwise
+pub wrote-as : {xs us ys zs : List ℕ} {at n : ℕ} → ys ≡ zs → Wrote xs at ys n us → Wrote xs at zs n us
+wrote-as {xs} {us} {ys} {zs} {at} {n} e p = record
+    { next = p .next ∙ ap (λ (l : List ℕ). at + length l) e; buffer = p .buffer ∙ ap (over xs at) e }
+
+pub wrote-length : {xs us ys : List ℕ} {at n : ℕ} → at + length ys ≤ length xs → Wrote xs at ys n us → length us ≡ length xs
+wrote-length {xs} {us} {ys} {at} {n} h p = ap length (p .buffer) ∙ length-over xs at ys h

@@ -1,0 +1,31 @@
+-- The mappings that are written for names: their tags and their labels.
+use mathlib.Core.Path.{_≡_, sym, subst}
+use mathlib.Core.List.{List, [], List·Memᴰ}
+use mathlib.Core.Bool.{false}
+use Prim.Native.Nat.{ℕ, _+_, _≤_}
+use native.Mathlib.Omega.{arith}
+use lib.ListN.{length}
+use Rattle.runs.specs.Same.{among}
+use Rattle.pack.specs.Said.{SaidName, label}
+use Rattle.pack_layout.specs.Layout.{Entry}
+use Rattle.runs.specs.Those.{Each}
+use Rattle.scrub_kept.specs.Written.{numbersIn, labelsIn, entries}
+use Rattle.runs.proofs.Those.{each-both, each-made}
+use Rattle.scrub_kept.proofs.Entries.{Reaches, assigned-labels, assigned-free, assigned-range}
+use Rattle.scrub_kept.proofs.Labels.{names-few, labels-only}
+
+module _ (ns : List SaidName) where
+  pub entries-new : length ns ≤ 64 → Each (λ (m : Entry). (64 ≤ m .tag) × (m .tag ≤ 127) × (among (m .tag) (numbersIn ns) ≡ false)) (entries ns)
+  entries-new h =
+      let ts = numbersIn ns in
+      let ls = labelsIn [] ns in
+      let f = names-few [] ns in
+      let both : (m : Entry) → Reaches (length ts + length ls) (m .tag) → among (m .tag) ts ≡ false
+      → (64 ≤ m .tag) × (m .tag ≤ 127) × (among (m .tag) ts ≡ false) = λ m a b. (a .0, omega arith, b) in
+      each-both both (entries ns) (assigned-range ts ls) (assigned-free ts ls)
+
+  pub entries-only : Each (λ (m : Entry). List·Memᴰ (label (m .stands)) ns) (entries ns)
+  entries-only =
+      let there : List ℕ → Type 0 = λ l. List·Memᴰ (label l) ns in
+      each-made there (λ (m : Entry). m .stands) (entries ns)
+      (subst (Each there) (sym (assigned-labels (numbersIn ns) (labelsIn [] ns))) (labels-only [] ns))

@@ -1,0 +1,142 @@
+-- `scrub_plan::plan_rows` meets its contract. The loop keeps the plan of the rows that it has passed.
+use mathlib.Core.Path.{_≡_, sym, ap, ap₂, _∙_}
+use Prim.Native.Nat.{ℕ, _-_, _<_}
+use native.Mathlib.Omega.{arith}
+use lib.ListN.{length, take, getD}
+use lib.Seq.{length-take-le, getD-take}
+use Rattle.pack.specs.Reading.{blank}
+use Rattle.pack.specs.declared.Item.{Item}
+use Rattle.pack.specs.declared.Slot.{Slot}
+use Rattle.pack_slots.specs.Slots.{slotsIn}
+use Rattle.pack_slots.proofs.Laws.{length-in, slot-in}
+use Rattle.scrub_names.specs.declared.Mark.the-variants as M
+use Rattle.scrub_names.specs.Marks.{Marked, marksIn}
+use Rattle.scrub_names.proofs.Cells.{length-marks, mark-in}
+use Rattle.scrub_write.specs.Ops.{opsIn}
+use Rattle.scrub_write.proofs.Cells.{ops-none}
+use Rattle.scrub_plan.specs.Planned.{tagOf, stepOf}
+use Rattle.scrub_plan.proofs.Going.{row-small, mark-small, Going, going-begins, going-ends, going-on}
+use Rattle.scrub_plan.proofs.plan_rows.Statement.{statement}
+use Rattle.scrub_plan.proofs.plan_rows.Tie as tie
+
+abbrev gone : Marked
+gone = record { mark = M.Gone }
+
+abbrev Inv-loop : tie.InvT-loop
+Inv-loop slots marks index count ops₀ inner₀ size₀ i₀ ops inner size i = Going index (take count (slotsIn slots)) (marksIn marks) (opsIn ops) inner size i
+
+abbrev μ-loop : tie.MeasureT-loop
+μ-loop slots marks index count ops₀ inner₀ size₀ i₀ ops inner size i = i
+
+counted : (b : tie.Start Inv-loop μ-loop) → length (take (b .args .count) (slotsIn (b .args .slots .now))) ≡ b .args .count
+counted b = length-take-le (b .args .count) (slotsIn (b .args .slots .now)) (omega (arith, length-in (b .args .slots .now), b .pre .0))
+
+-- where the call began
+abbrev start : tie.In-loop Inv-loop μ-loop → tie.Start Inv-loop μ-loop
+start d = d .before .before
+
+inside : (d : tie.In-loop Inv-loop μ-loop) → (d .before .loop .i - 1 < start d .args .count) × (d .before .loop .i - 1 < 64)
+inside d =
+    let n = counted (start d) in
+    let m = d .before .loop .inv .most in
+    let h = start d .pre .0 in
+    (omega arith, omega arith)
+
+-- the item and the mark that are read stand in the row
+item-is : (k : tie.After-item Inv-loop μ-loop)
+    → let d = k .before in k .item .result ≡ getD (take (start d .args .count) (slotsIn (start d .args .slots .now))) (d .before .loop .i - 1) blank .item
+item-is k =
+    let d = k .before in
+    let a = start d .args in
+    let i = inside d in
+    k .item .ensures
+    ∙ sym (ap (λ (x : Slot). x .item) (getD-take (a .count) (slotsIn (a .slots .now)) (d .before .loop .i - 1) blank (i .0) ∙ slot-in (a .slots .now) (d .before .loop .i - 1) blank (i .1)))
+
+mark-is : (m : tie.After-mark-in Inv-loop μ-loop) → let d = m .before .before in m .mark-in .result ≡ getD (marksIn (start d .args .marks .now)) (d .before .loop .i - 1) gone .mark
+mark-is m =
+    let d = m .before .before in
+    let i = inside d in
+    m .mark-in .ensures ∙ sym (ap (λ (x : Marked). x .mark) (mark-in (start d .args .marks .now) (d .before .loop .i - 1) gone (i .1)))
+
+loop-holds : tie.Need-loop-holds Inv-loop μ-loop
+loop-holds c =
+    let n = counted c in
+    let h = c .pre .0 in
+    rw (c .pre .3, ops-none) (going-begins _ _ _ _ (sym n) (omega arith) (length-marks _))
+
+sub-i : tie.Need-sub-i Inv-loop μ-loop
+sub-i c = omega arith
+
+item-requires : tie.Need-item-requires Inv-loop μ-loop
+item-requires c κs = inside c .1
+
+mark-in-requires : tie.Need-mark-in-requires Inv-loop μ-loop
+mark-in-requires c κs = inside (c .before) .1
+
+tag-of-requires : tie.Need-tag-of-requires Inv-loop μ-loop
+tag-of-requires c κs =
+    let d = c .before .before in
+    let l = length-marks (start d .args .marks .now) in
+    rw (mark-is c) (mark-small (marksIn (start d .args .marks .now)) _ gone (start d .pre .2) (omega (arith, inside d .1)))
+
+plan-row-requires : tie.Need-plan-row-requires Inv-loop μ-loop
+plan-row-requires c κs =
+    let k = c .before .before in
+    let d = k .before in
+    let n = counted (start d) in
+    let g = d .before .loop .inv in
+    let x = g .bound in
+    let y = g .small in
+    let z = g .few in
+    (rw (item-is k) (row-small (take (start d .args .count) (slotsIn (start d .args .slots .now))) _ blank (start d .pre .1) (omega (arith, inside d .0))), omega arith)
+
+put-op-requires : tie.Need-put-op-requires Inv-loop μ-loop
+put-op-requires c κs = inside (c .before .before .before .before .before) .1
+
+add-size : tie.Need-add-size Inv-loop μ-loop
+add-size c =
+    let k = c .before .before .before in
+    let g = k .before .before .before .before .before .loop .inv in
+    let x = g .bound in
+    let z = g .few in
+    let q = k .plan-row .ensures .1 in
+    omega arith
+
+loop-less : tie.Need-loop-less Inv-loop μ-loop
+loop-less c = omega arith
+
+loop-again : tie.Need-loop-again Inv-loop μ-loop
+loop-again c =
+    let k = c .before .before .before in
+    let t = k .before in
+    let m = t .before in
+    let d = m .before .before in
+    let e = k .plan-row .ensures in
+    going-on (d .before .loop .inv) blank gone (d .loop-test .taken) _ _ (c .before .put-op .ensures) (
+      e .0
+          ∙ ap₂ (λ (x : Item) (u : ℕ). stepOf x u (d .before .loop .inner)) (item-is (m .before))
+          (t .tag-of .ensures ∙ ap (tagOf (start d .args .index .now)) (mark-is m)),
+      e .1,
+      e .2,
+    )
+
+returns : tie.Need-returns Inv-loop μ-loop
+returns c = going-ends (c .before .loop .inv) _ (sym (counted (c .before .before))) (c .loop-test .left)
+
+pub plan-rows-spec : {M : Type 1} → statement M
+plan-rows-spec =
+    tie.close
+    (tie.spec
+    Inv-loop
+    μ-loop
+    loop-holds
+    sub-i
+    item-requires
+    mark-in-requires
+    tag-of-requires
+    plan-row-requires
+    put-op-requires
+    add-size
+    loop-less
+    loop-again
+    returns)

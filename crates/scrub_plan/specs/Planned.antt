@@ -1,0 +1,87 @@
+-- The writes for the rows of a reading, worked out from the last row to the first, so that a Sync knows the size of what is inside.
+use mathlib.Core.Path.{_≡_}
+use mathlib.Core.List.{List, [], _∷_}
+use mathlib.Core.Bool.{cond}
+use Prim.Native.Nat.{ℕ, _+_, _<_, _≤_}
+use lib.Dec.{eqb}
+use lib.ListN.{length, getD}
+use Rattle.numbers.specs.Tags.{tagBytes}
+use Rattle.numbers.specs.Lengths.{lengthBytes}
+use Rattle.pack.specs.declared.Item.{Item}
+use Rattle.pack.specs.declared.Item.the-variants as I
+use Rattle.pack.specs.declared.Slot.{Slot}
+use Rattle.pack.specs.Fixed.{packCap, mappingCap}
+use Rattle.scrub_names.specs.declared.Mark.{Mark}
+use Rattle.scrub_names.specs.declared.Mark.the-variants as M
+use Rattle.scrub_names.specs.Marks.{Marked}
+use Rattle.scrub_write.specs.declared.Op.the-variants.{Skip, Put, Open}
+use Rattle.scrub_write.specs.Ops.{OpSlot}
+use Rattle.scrub_plan.specs.declared.Step.{Step}
+
+-- the tag that a marked row is written with, 0 if it goes; `index` has the new tags of labels
+abbrev pub tagOf : List ℕ → Mark → ℕ
+tagOf index M.Gone = 0
+tagOf index (M.Number t) = t
+tagOf index (M.Label i) = getD index i 0
+
+-- tag, length and value
+abbrev pub sized : ℕ → ℕ → ℕ
+sized t l = length (tagBytes t) + (length (lengthBytes l) + l)
+
+-- one row: its write, the bytes inside a Sync that is still to come, and its size. `inner` is what stands inside so far
+unfoldable pub stepOf : Item → ℕ → ℕ → Step
+stepOf (I.Single x) t inner =
+    cond (eqb t 0)
+    (record { op = Skip; inner = 0; size = 0 })
+    (record { op = Put t (x .«value_start») (x .«value_len»); inner = 0; size = sized t (x .«value_len») })
+stepOf (I.Inner x) t inner =
+    cond (eqb t 0)
+    (record { op = Skip; inner = inner; size = 0 })
+    (record { op = Put t (x .«value_start») (x .«value_len»); inner = sized t (x .«value_len») + inner; size = sized t (x .«value_len») })
+stepOf (I.Sync h) t inner =
+    cond (eqb inner 0)
+    (record { op = Skip; inner = 0; size = 0 })
+    (record { op = Open inner (h .offset) (h .duration); inner = 0; size = 1 + (length (lengthBytes (4 + inner)) + 4) })
+
+pub record Planned : Type 0 where
+  pub inner : ℕ
+  pub total : ℕ
+  pub ops : List OpSlot
+
+abbrev pub joined : Step → Planned → Planned
+joined s p = record { inner = s .inner; total = s .size + p .total; ops = record { op = s .op } ∷ p .ops }
+
+unfoldable pub planned : List ℕ → List Slot → List Marked → Planned
+planned index [] ms = record { inner = 0; total = 0; ops = [] }
+planned index (x ∷ xs) [] = record { inner = 0; total = 0; ops = [] }
+planned index (x ∷ xs) (m ∷ ms) = joined (stepOf (x .item) (tagOf index (m .mark)) ((planned index xs ms) .inner)) (planned index xs ms)
+
+-- the writes in order, and how many bytes they make
+pub record Plan : Type 0 where
+  pub ops : List OpSlot
+  pub size : ℕ
+
+-- what the plan of these rows is
+pub record Plans (index : List ℕ) (xs : List Slot) (ms : List Marked) (r : Plan) : Type 0 where
+  pub ops : r .ops ≡ (planned index xs ms) .ops
+  pub size : r .size ≡ (planned index xs ms) .total
+  pub small : r .size < 3000000
+
+-- values that a pack can hold, and labels that are mapped
+abbrev pub ItemSmall : Item → Type 0
+ItemSmall (I.Single x) = x .«value_len» ≤ packCap
+ItemSmall (I.Inner x) = x .«value_len» ≤ packCap
+ItemSmall (I.Sync h) = Unit
+
+abbrev pub RowsSmall : List Slot → Type 0
+RowsSmall [] = Unit
+RowsSmall (x ∷ r) = ItemSmall (x .item) × RowsSmall r
+
+abbrev pub MarkFits : Mark → Type 0
+MarkFits M.Gone = Unit
+MarkFits (M.Number t) = Unit
+MarkFits (M.Label i) = i < mappingCap
+
+abbrev pub MarksFit : List Marked → Type 0
+MarksFit [] = Unit
+MarksFit (m ∷ r) = MarkFits (m .mark) × MarksFit r

@@ -1,0 +1,35 @@
+-- What a sheet keeps, by cases on what it asks for.
+use mathlib.Core.Path.{_≡_, subst}
+use mathlib.Core.List.{List}
+use mathlib.Core.Bool.{Bool, true, false}
+use Prim.Native.Nat.{ℕ, _+_, _*_, _≤_}
+use lib.ListN.{length}
+use Rattle.runs.specs.Same.{among, listed}
+use Rattle.pack.specs.Said.{SaidName, label, number}
+use Rattle.scrub_kept.specs.Sheet.{labelsAt, numbersAt}
+use Rattle.scrub_kept.specs.Kept.{keeps}
+use Rattle.scrub_sheet.specs.declared.Asked.{Asked}
+use Rattle.scrub_sheet.specs.declared.Asked.the-variants as K
+use Rattle.scrub_sheet.specs.Judged.{asks, Holds}
+
+module _ (s : List ℕ) {x : Asked} where
+  pub all-keeps : (n : SaidName) → x ≡ K.All → true ≡ keeps (asks s x) n
+  all-keeps n e = rw e
+
+  pub none-label : (l : List ℕ) → x ≡ K.Refused → false ≡ keeps (asks s x) (label l)
+  unfolding listed
+  none-label l e = rw e
+
+  pub none-number : (t : ℕ) → x ≡ K.Refused → false ≡ keeps (asks s x) (number t)
+  unfolding among
+  none-number t e = rw e
+
+  module _ (l t : ℕ) (e : x ≡ K.These l t) where
+    pub these-hold : Holds s x → 8 + 16 * l + 4 * t ≤ length s
+    these-hold h = subst (Holds s) e h
+
+    pub these-label : (m : List ℕ) {r : Bool} → r ≡ listed m (labelsAt s 8 l) → r ≡ keeps (asks s x) (label m)
+    these-label m h = rw e h
+
+    pub these-number : (n : ℕ) {r : Bool} → r ≡ among n (numbersAt s (8 + 16 * l) t) → r ≡ keeps (asks s x) (number n)
+    these-number n h = rw e h

@@ -1,3 +1,0 @@
-pub mod Runs
-pub mod Ops
-pub mod Cells
