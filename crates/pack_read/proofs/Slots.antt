@@ -14,7 +14,7 @@ use Rattle.pack.specs.declared.Item.{Item}
 use Rattle.pack.specs.declared.Item.the-variants as I
 use Rattle.pack.specs.declared.Slot.{Slot}
 use Rattle.pack.proofs.Padded.{set-padded}
-use Rattle.pack_slots.specs.Slots.{itemAt, slotsIn}
+use Rattle.pack_slots.specs.Slots.{slotItem, slotsIn}
 use Rattle.pack_slots.proofs.Laws.{length-in, slot-in}
 
 abbrev pub innerSlot : Payload → Slot
@@ -68,11 +68,11 @@ sets-before l i n (v ∷ vs) x h =
 
 -- the first slots are filled: one more, and all
 module _ (s : List ℕ) {items : List Slot} where
-  pub listed-next : {i : ℕ} {x : Item} → i < 64 → items ≡ padded 64 blank (take i (slotsIn s)) → x ≡ itemAt s (8 * i)
+  pub listed-next : {i : ℕ} {x : Item} → i < 64 → items ≡ padded 64 blank (take i (slotsIn s)) → x ≡ slotItem s (8 * i)
       → set items i (slot x) ≡ padded 64 blank (take (i + 1) (slotsIn s))
   listed-next {i} {x} h e q =
       ap₂ (λ (a : List Slot) (y : Item). set a i (slot y)) e q
-      ∙ set-padded 64 blank (take i (slotsIn s)) i (length-take-le i (slotsIn s) (omega (arith, length-in s))) (slot (itemAt s (8 * i))) h
+      ∙ set-padded 64 blank (take i (slotsIn s)) i (length-take-le i (slotsIn s) (omega (arith, length-in s))) (slot (slotItem s (8 * i))) h
       ∙ ap (λ (y : Slot). padded 64 blank (take i (slotsIn s) ++ (y ∷ []))) (sym (slot-in s i blank h))
       ∙ ap (padded 64 blank) (sym (ap (λ (k : ℕ). take k (slotsIn s)) (add-one i) ∙ take-suc (slotsIn s) i blank (omega (arith, length-in s))))
 

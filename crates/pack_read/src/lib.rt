@@ -26,7 +26,7 @@ use refusals::Answer;
 use refusals::Refusal;
 
 // Whether the CRC whose value stands at `at` is that of the pack up to `at`.
-pub fn crc_good(s: &[u8], at: usize) -> bool
+fn crc_good(s: &[u8], at: usize) -> bool
     requires { ⌜ at + 4 ≤ length (now s) ⌝ }
     ensures { λ r. ⌜ r ≡ crcGood (now (s .entry)) at ⌝ }
 {

@@ -11,7 +11,7 @@ use Rattle.pack.specs.declared.Head.{Head}
 use Rattle.pack.specs.declared.Item.{Item}
 use Rattle.pack.specs.declared.Item.the-variants.{Single, Sync, Inner}
 use Rattle.pack.specs.declared.Slot.{Slot}
-use Rattle.pack.proofs.Rows.{row-taken}
+use Rattle.pack.proofs.Slots.{row-taken}
 use Rattle.pack_rows.specs.Rows.{extended, payloadRow, syncRow, itemRow, itemRows}
 
 -- LENGTHS

@@ -22,7 +22,7 @@ use Rattle.pack.specs.Items.{countOf}
 use Rattle.pack.specs.Reading.{Read, reading, slots, blank, padded, shown}
 use Rattle.pack.specs.Rows.{RowsFit}
 use Rattle.pack.specs.declared.Reading.{Reading}
-use Rattle.pack.proofs.Rows.{slots-count, rows-taken}
+use Rattle.pack.proofs.Slots.{slots-count, rows-taken}
 use Rattle.pack_layout.proofs.Bounds.{reading-bounds}
 use Rattle.pack_layout.proofs.Shown.{rows-fit}
 use Rattle.pack_rows.specs.Rows.{packRow, itemRows, rowsOf, rowsRead}

@@ -5,12 +5,12 @@ ghost use Prim.Native.Nat.{_≤_};
 ghost use lib.ListN.{length};
 ghost use Rattle.refusals.specs.Lent.{within, Delivered};
 ghost use Rattle.pack.specs.Rows.{NameFits, ItemFits};
-ghost use Rattle.pack_slots.specs.Slots.{numbersOf};
+ghost use Rattle.pack_slots.specs.Slots.{cellNumbers};
 ghost use Rattle.pack_rows.specs.Rows.{extended, packRow, payloadRow, itemRow, rowsRead};
 use pack::Item;
 use pack::Name;
 use pack::Payload;
-use pack_slots::Row;
+use pack_slots::Cell;
 use refusals::Answer;
 use refusals::Refusal;
 
@@ -33,11 +33,11 @@ fn mark(crc: bool) -> u32
 }
 
 // The row of the pack, which holds other numbers than those of its items: its offset, whether a CRC stood there, and how many rows follow.
-fn pack_row(offset: u16, crc: bool, count: usize) -> Row
+fn pack_row(offset: u16, crc: bool, count: usize) -> Cell
     requires { ⌜ count ≤ 64 ⌝ }
-    ensures { λ r. ⌜ numbersOf r ≡ packRow offset crc count ⌝ }
+    ensures { λ r. ⌜ cellNumbers r ≡ packRow offset crc count ⌝ }
 {
-    Row {
+    Cell {
         form: extended(offset),
         start: mark(crc),
         named: count as u32,
@@ -50,13 +50,13 @@ fn pack_row(offset: u16, crc: bool, count: usize) -> Row
 }
 
 // The row of a payload. A label is told by where it stands in the pack, which `places` says of each mapping.
-fn payload_row(places: &[u32; 32], form: u32, x: Payload) -> Row
+fn payload_row(places: &[u32; 32], form: u32, x: Payload) -> Cell
     requires { ⌜ NameFits (x .name) ⌝ }
-    ensures { λ r. ⌜ numbersOf r ≡ payloadRow (now (places .entry)) form (x .name) (x .start) (x .«value_start») (x .«value_len») ⌝ }
+    ensures { λ r. ⌜ cellNumbers r ≡ payloadRow (now (places .entry)) form (x .name) (x .start) (x .«value_start») (x .«value_len») ⌝ }
 {
     let name = x.name;
     match name {
-        Name::Number(tag) => Row {
+        Name::Number(tag) => Cell {
             form,
             start: x.start,
             named: 0,
@@ -66,7 +66,7 @@ fn payload_row(places: &[u32; 32], form: u32, x: Payload) -> Row
             offset: 0,
             duration: 0,
         },
-        Name::Label(i) => Row {
+        Name::Label(i) => Cell {
             form,
             start: x.start,
             named: 1,
@@ -80,14 +80,14 @@ fn payload_row(places: &[u32; 32], form: u32, x: Payload) -> Row
 }
 
 // The row of an item or inner payload.
-fn item_row(places: &[u32; 32], item: Item) -> Row
+fn item_row(places: &[u32; 32], item: Item) -> Cell
     requires { ⌜ ItemFits item ⌝ }
-    ensures { λ r. ⌜ numbersOf r ≡ itemRow (now (places .entry)) item ⌝ }
+    ensures { λ r. ⌜ cellNumbers r ≡ itemRow (now (places .entry)) item ⌝ }
 {
     match item {
         Item::Single(x) => payload_row(places, 0, x),
         Item::Inner(x) => payload_row(places, 2, x),
-        Item::Sync(h) => Row {
+        Item::Sync(h) => Cell {
             form: 1,
             start: h.start,
             named: 2,
@@ -120,12 +120,12 @@ pub fn rows(pack: &[u8], out: &mut [u32]) -> Answer
         };
     }
     let first = pack_row(found.offset, found.crc, count);
-    let mut next = pack_slots::put_row(&mut *out, 0, first);
+    let mut next = pack_slots::put_cell(&mut *out, 0, first);
     let mut i: usize = 0;
     while i < count {
         let item = pack_slots::item(&slots, i);
         let row = item_row(&places, item);
-        next = pack_slots::put_row(&mut *out, next, row);
+        next = pack_slots::put_cell(&mut *out, next, row);
         i += 1;
     }
     Answer::Done(next)

@@ -15,38 +15,38 @@ use Rattle.pack.specs.declared.Payload.{Payload}
 use Rattle.pack.specs.declared.Item.{Item}
 use Rattle.pack.specs.declared.Item.the-variants.{Single, Sync, Inner}
 use Rattle.pack.specs.declared.Slot.{Slot}
-use Rattle.pack_slots.specs.Slots.{namedBy, nameNumber, payloadNumbers, itemNumbers, nameAt, payloadAt, itemAt, slotAt, slotsIn, ItemNarrow}
+use Rattle.pack_slots.specs.Slots.{nameForm, nameNumber, payloadNumbers, itemNumbers, slotName, slotPayload, slotItem, slotAt, slotsIn, ItemNarrow}
 
 pub length-in : (s : List ℕ) → length (slotsIn s) ≡ 64
 length-in s = length-cells slotAt 8 itemCap s
 
 -- the slot i holds the item whose numbers stand there
-pub slot-in : (s : List ℕ) (i : ℕ) (d : Slot) → i < 64 → getD (slotsIn s) i d ≡ slot (itemAt s (8 * i))
+pub slot-in : (s : List ℕ) (i : ℕ) (d : Slot) → i < 64 → getD (slotsIn s) i d ≡ slot (slotItem s (8 * i))
 slot-in s i d h = cell-at slotAt 8 itemCap s i d h
 
 -- A STORE
 
 -- the same numbers are the same item
 near : Local slotAt 8
-unfolding itemAt nameAt
+unfolding slotItem slotName
 near s t a b h =
     let z : getD s a 0 ≡ getD t b 0 =
     ap (λ (i : ℕ). getD s i 0) (let e : a ≡ a + 0 = omega arith in e) ∙ h 0 (omega arith) ∙ ap (λ (i : ℕ). getD t i 0) (let e : b + 0 ≡ b = omega arith in e) in
     rw (z, h 1 (omega arith), h 2 (omega arith), h 3 (omega arith), h 4 (omega arith), h 5 (omega arith), h 6 (omega arith), h 7 (omega arith)) refl
 
-name-back : (n : Name) (s : List ℕ) → getD s 2 0 ≡ namedBy n → getD s 3 0 ≡ nameNumber n → nameAt s 0 ≡ n
-unfolding nameAt
+name-back : (n : Name) (s : List ℕ) → getD s 2 0 ≡ nameForm n → getD s 3 0 ≡ nameNumber n → slotName s 0 ≡ n
+unfolding slotName
 name-back (Number t) s e f = rw (e, f) refl
 name-back (Label i) s e f = rw (e, f) refl
 
-payload-back : (form : ℕ) (x : Payload) → payloadAt (payloadNumbers form x) 0 ≡ x
+payload-back : (form : ℕ) (x : Payload) → slotPayload (payloadNumbers form x) 0 ≡ x
 payload-back form x =
     ap (λ (n : Name). record { name = n; start = x .start; «value_start» = x .«value_start»; «value_len» = x .«value_len» })
     (name-back (x .name) (payloadNumbers form x) refl refl)
 
 -- an item is what its numbers say
-item-back : (x : Item) → ItemNarrow x → itemAt (itemNumbers x) 0 ≡ x
-unfolding itemAt itemNumbers
+item-back : (x : Item) → ItemNarrow x → slotItem (itemNumbers x) 0 ≡ x
+unfolding slotItem itemNumbers
 item-back (Single x) h = ap Single (payload-back 0 x)
 item-back (Inner x) h = ap Inner (payload-back 2 x)
 item-back (Sync y) h =
@@ -73,5 +73,5 @@ slots-put s long n h x narrow =
 
 -- where all numbers are 0 every slot is blank
 pub slots-none : slotsIn (replicate 512 0) ≡ replicate 64 blank
-unfolding cellsFrom itemAt nameAt
+unfolding cellsFrom slotItem slotName
 slots-none = refl

@@ -1,3 +1,3 @@
 pub mod Stores
-pub mod Rows
+pub mod Cells
 pub mod Laws

@@ -14,23 +14,23 @@ use Rattle.pack.specs.declared.Head.{Head}
 use Rattle.pack.specs.declared.Item.{Item}
 use Rattle.pack.specs.declared.Item.the-variants.{Single, Sync, Inner}
 use Rattle.pack.specs.declared.Slot.{Slot}
-use Rattle.pack_slots.specs.declared.Row.{Row}
+use Rattle.pack_slots.specs.declared.Cell.{Cell}
 
 -- the numbers of the struct that the code fills
-abbrev pub numbersOf : Row → List ℕ
-numbersOf r = r .form ∷ r .start ∷ r .named ∷ r .name ∷ r .«value_start» ∷ r .«value_len» ∷ r .offset ∷ r .duration ∷ []
+abbrev pub cellNumbers : Cell → List ℕ
+cellNumbers r = r .form ∷ r .start ∷ r .named ∷ r .name ∷ r .«value_start» ∷ r .«value_len» ∷ r .offset ∷ r .duration ∷ []
 
 -- the numbers of a payload: its form and start, 0 and its tag or 1 and its mapping, its value's start and length
-abbrev pub namedBy : Name → ℕ
-namedBy (Number t) = 0
-namedBy (Label i) = 1
+abbrev pub nameForm : Name → ℕ
+nameForm (Number t) = 0
+nameForm (Label i) = 1
 
 abbrev pub nameNumber : Name → ℕ
 nameNumber (Number t) = t
 nameNumber (Label i) = i
 
 abbrev pub payloadNumbers : ℕ → Payload → List ℕ
-payloadNumbers form x = form ∷ x .start ∷ namedBy (x .name) ∷ nameNumber (x .name) ∷ x .«value_start» ∷ x .«value_len» ∷ 0 ∷ 0 ∷ []
+payloadNumbers form x = form ∷ x .start ∷ nameForm (x .name) ∷ nameNumber (x .name) ∷ x .«value_start» ∷ x .«value_len» ∷ 0 ∷ 0 ∷ []
 
 -- those of an item
 unfoldable pub itemNumbers : Item → List ℕ
@@ -39,19 +39,19 @@ itemNumbers (Inner x) = payloadNumbers 2 x
 itemNumbers (Sync h) = 1 ∷ h .start ∷ 2 ∷ h .inside ∷ h .«value_start» ∷ h .«value_len» ∷ h .offset ∷ h .duration ∷ []
 
 -- and back: the name, the payload, the Sync and the item whose numbers stand at `at`
-unfoldable pub nameAt : List ℕ → ℕ → Name
-nameAt s at = cond (eqb (getD s (at + 2) 0) 1) (Label (getD s (at + 3) 0)) (Number (getD s (at + 3) 0))
+unfoldable pub slotName : List ℕ → ℕ → Name
+slotName s at = cond (eqb (getD s (at + 2) 0) 1) (Label (getD s (at + 3) 0)) (Number (getD s (at + 3) 0))
 
-abbrev pub payloadAt : List ℕ → ℕ → Payload
-payloadAt s at = record {
-  name = nameAt s at;
+abbrev pub slotPayload : List ℕ → ℕ → Payload
+slotPayload s at = record {
+  name = slotName s at;
   start = getD s (at + 1) 0;
   «value_start» = getD s (at + 4) 0;
   «value_len» = getD s (at + 5) 0;
 }
 
-abbrev pub headAt : List ℕ → ℕ → Head
-headAt s at = record {
+abbrev pub slotHead : List ℕ → ℕ → Head
+slotHead s at = record {
   start = getD s (at + 1) 0;
   «value_start» = getD s (at + 4) 0;
   «value_len» = getD s (at + 5) 0;
@@ -60,12 +60,12 @@ headAt s at = record {
   inside = getD s (at + 3) 0;
 }
 
-unfoldable pub itemAt : List ℕ → ℕ → Item
-itemAt s at = cond (eqb (getD s at 0) 1) (Sync (headAt s at)) (cond (eqb (getD s at 0) 2) (Inner (payloadAt s at)) (Single (payloadAt s at)))
+unfoldable pub slotItem : List ℕ → ℕ → Item
+slotItem s at = cond (eqb (getD s at 0) 1) (Sync (slotHead s at)) (cond (eqb (getD s at 0) 2) (Inner (slotPayload s at)) (Single (slotPayload s at)))
 
 -- the slots of an array
 abbrev pub slotAt : List ℕ → ℕ → Slot
-slotAt s at = slot (itemAt s at)
+slotAt s at = slot (slotItem s at)
 
 abbrev pub slotsIn : List ℕ → List Slot
 slotsIn s = cells slotAt 8 itemCap s

@@ -5,15 +5,15 @@ ghost use lib.ListN.{length, getD, set};
 ghost use Rattle.runs.specs.Over.{Wrote};
 ghost use Rattle.pack.specs.Fixed.{itemCap};
 ghost use Rattle.pack.specs.Reading.{slot};
-ghost use Rattle.pack_slots.specs.Slots.{numbersOf, payloadNumbers, itemNumbers, nameAt, payloadAt, headAt, itemAt, slotsIn, ItemNarrow};
+ghost use Rattle.pack_slots.specs.Slots.{cellNumbers, payloadNumbers, itemNumbers, slotName, slotPayload, slotHead, slotItem, slotsIn, ItemNarrow};
 use pack::Head;
 use pack::Item;
 use pack::Name;
 use pack::Payload;
 
-// A row: its form (0 a payload, 1 a Sync, 2 a payload inside the Sync above), where it starts, what it is named by (0 a number, 1 a label,
+// A cell: its form (0 a payload, 1 a Sync, 2 a payload inside the Sync above), where it starts, what it is named by (0 a number, 1 a label,
 // 2 for a Sync), the tag or the mapping or how many payloads are inside, the stretch of its value, and a Sync's two numbers.
-pub struct Row {
+pub struct Cell {
     pub form: u32,
     pub start: u32,
     pub named: u32,
@@ -24,28 +24,28 @@ pub struct Row {
     pub duration: u32,
 }
 
-// Stores a row and answers the place after it.
-pub fn put_row(out: &mut [u32], at: usize, row: Row) -> usize
+// Stores a cell and answers the place after it.
+pub fn put_cell(out: &mut [u32], at: usize, cell: Cell) -> usize
     requires { ⌜ at + 8 ≤ length (now out) ⌝ }
-    ensures { λ r. ⌜ Wrote (now (out .entry)) at (numbersOf row) r (now (out .exit)) ⌝ }
+    ensures { λ r. ⌜ Wrote (now (out .entry)) at (cellNumbers cell) r (now (out .exit)) ⌝ }
 {
-    out[at] = row.form;
-    out[at + 1] = row.start;
-    out[at + 2] = row.named;
-    out[at + 3] = row.name;
-    out[at + 4] = row.value_start;
-    out[at + 5] = row.value_len;
-    out[at + 6] = row.offset;
-    out[at + 7] = row.duration;
+    out[at] = cell.form;
+    out[at + 1] = cell.start;
+    out[at + 2] = cell.named;
+    out[at + 3] = cell.name;
+    out[at + 4] = cell.value_start;
+    out[at + 5] = cell.value_len;
+    out[at + 6] = cell.offset;
+    out[at + 7] = cell.duration;
     at + 8
 }
 
-fn payload_row(form: u32, x: Payload) -> Row
-    ensures { λ r. ⌜ numbersOf r ≡ payloadNumbers form x ⌝ }
+fn payload_cell(form: u32, x: Payload) -> Cell
+    ensures { λ r. ⌜ cellNumbers r ≡ payloadNumbers form x ⌝ }
 {
     let name = x.name;
     match name {
-        Name::Number(tag) => Row {
+        Name::Number(tag) => Cell {
             form,
             start: x.start,
             named: 0,
@@ -55,7 +55,7 @@ fn payload_row(form: u32, x: Payload) -> Row
             offset: 0,
             duration: 0,
         },
-        Name::Label(i) => Row {
+        Name::Label(i) => Cell {
             form,
             start: x.start,
             named: 1,
@@ -68,13 +68,13 @@ fn payload_row(form: u32, x: Payload) -> Row
     }
 }
 
-fn item_row(item: Item) -> Row
-    ensures { λ r. ⌜ (numbersOf r ≡ itemNumbers item) × ItemNarrow item ⌝ }
+fn item_cell(item: Item) -> Cell
+    ensures { λ r. ⌜ (cellNumbers r ≡ itemNumbers item) × ItemNarrow item ⌝ }
 {
     match item {
-        Item::Single(x) => payload_row(0, x),
-        Item::Inner(x) => payload_row(2, x),
-        Item::Sync(h) => Row {
+        Item::Single(x) => payload_cell(0, x),
+        Item::Inner(x) => payload_cell(2, x),
+        Item::Sync(h) => Cell {
             form: 1,
             start: h.start,
             named: 2,
@@ -92,13 +92,13 @@ pub fn put(slots: &mut [u32; 512], n: usize, item: Item)
     requires { ⌜ n < itemCap ⌝ }
     ensures { λ _. ⌜ slotsIn (now (slots .exit)) ≡ set (slotsIn (now (slots .entry))) n (slot item) ⌝ }
 {
-    let row = item_row(item);
-    put_row(slots, 8 * n, row);
+    let cell = item_cell(item);
+    put_cell(slots, 8 * n, cell);
 }
 
 fn name_at(slots: &[u32; 512], at: usize) -> Name
     requires { ⌜ at + 8 ≤ 512 ⌝ }
-    ensures { λ r. ⌜ r ≡ nameAt (now (slots .entry)) at ⌝ }
+    ensures { λ r. ⌜ r ≡ slotName (now (slots .entry)) at ⌝ }
 {
     let number = slots[at + 3];
     if slots[at + 2] == 1 {
@@ -109,7 +109,7 @@ fn name_at(slots: &[u32; 512], at: usize) -> Name
 
 fn payload_at(slots: &[u32; 512], at: usize) -> Payload
     requires { ⌜ at + 8 ≤ 512 ⌝ }
-    ensures { λ r. ⌜ r ≡ payloadAt (now (slots .entry)) at ⌝ }
+    ensures { λ r. ⌜ r ≡ slotPayload (now (slots .entry)) at ⌝ }
 {
     let name = name_at(slots, at);
     Payload {
@@ -122,7 +122,7 @@ fn payload_at(slots: &[u32; 512], at: usize) -> Payload
 
 fn head_at(slots: &[u32; 512], at: usize) -> Head
     requires { ⌜ at + 8 ≤ 512 ⌝ }
-    ensures { λ r. ⌜ r ≡ headAt (now (slots .entry)) at ⌝ }
+    ensures { λ r. ⌜ r ≡ slotHead (now (slots .entry)) at ⌝ }
 {
     Head {
         start: slots[at + 1],
@@ -137,7 +137,7 @@ fn head_at(slots: &[u32; 512], at: usize) -> Head
 // The item in the slot `i`.
 pub fn item(slots: &[u32; 512], i: usize) -> Item
     requires { ⌜ i < itemCap ⌝ }
-    ensures { λ r. ⌜ r ≡ itemAt (now (slots .entry)) (8 * i) ⌝ }
+    ensures { λ r. ⌜ r ≡ slotItem (now (slots .entry)) (8 * i) ⌝ }
 {
     let at = 8 * i;
     let form = slots[at];

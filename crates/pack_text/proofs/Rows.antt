@@ -8,7 +8,7 @@ use lib.ListN.{length, getD, take, drop, drop-of-length-le}
 use lib.Seq.{getD-take, length-take-le}
 use Rattle.pack.specs.Fixed.{mappingCap}
 use Rattle.pack.specs.Meaning.{stretch}
-use Rattle.pack.proofs.Rows.{row-taken}
+use Rattle.pack.proofs.Slots.{row-taken}
 use Rattle.pack.specs.declared.Name.{Name}
 use Rattle.pack.specs.declared.Name.the-variants.{Label, Number}
 use Rattle.pack.specs.declared.Payload.{Payload}

@@ -12,7 +12,7 @@ use Rattle.pack.specs.Config.{Mapping, placesOf}
 use Rattle.pack.specs.Items.{Part, one, many, countOf}
 use Rattle.pack.specs.Reading.{Read, slot, slots, blank, padded}
 use Rattle.pack.specs.Meaning.{stretch}
-use Rattle.pack.proofs.Rows.{rows-taken}
+use Rattle.pack.proofs.Slots.{rows-taken}
 use Rattle.pack.specs.declared.Name.{Name}
 use Rattle.pack.specs.declared.Name.the-variants.{Label, Number}
 use Rattle.pack.specs.declared.Payload.{Payload}

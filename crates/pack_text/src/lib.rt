@@ -210,7 +210,7 @@ fn decimal_size(n: u64) -> usize
 // Each of the next four writes a field and the byte after it, a space or a newline, and answers the place after that.
 // The caller has seen that they fit.
 
-pub fn put_word(out: &mut [u8], at: usize, word: &[u8], end: u8) -> usize
+fn put_word(out: &mut [u8], at: usize, word: &[u8], end: u8) -> usize
     requires { ⌜ at + length (now word ++ (end ∷ [])) ≤ length (now out) ⌝ }
     ensures { λ r. ⌜ Wrote (now (out .entry)) at (now (word .entry) ++ (end ∷ [])) r (now (out .exit)) ⌝ }
 {
@@ -219,7 +219,7 @@ pub fn put_word(out: &mut [u8], at: usize, word: &[u8], end: u8) -> usize
     next + 1
 }
 
-pub fn put_decimal(out: &mut [u8], at: usize, n: u64, end: u8) -> usize
+fn put_decimal(out: &mut [u8], at: usize, n: u64, end: u8) -> usize
     requires { ⌜ at + length (decimal n ++ (end ∷ [])) ≤ length (now out) ⌝ }
     ensures { λ r. ⌜ Wrote (now (out .entry)) at (decimal n ++ (end ∷ [])) r (now (out .exit)) ⌝ }
 {
@@ -235,7 +235,7 @@ pub fn put_decimal(out: &mut [u8], at: usize, n: u64, end: u8) -> usize
 }
 
 // The 16 bits of `n` are a number in two's complement.
-pub fn put_signed(out: &mut [u8], at: usize, n: u16, end: u8) -> usize
+fn put_signed(out: &mut [u8], at: usize, n: u16, end: u8) -> usize
     requires { ⌜ at + length (integer (signed n) ++ (end ∷ [])) ≤ length (now out) ⌝ }
     ensures { λ r. ⌜ Wrote (now (out .entry)) at (integer (signed n) ++ (end ∷ [])) r (now (out .exit)) ⌝ }
 {
@@ -253,7 +253,7 @@ fn hex_digit(d: u8) -> u8
     if d < 10 { 48 + d } else { 55 + d }
 }
 
-pub fn put_hex(out: &mut [u8], at: usize, bytes: &[u8], end: u8) -> usize
+fn put_hex(out: &mut [u8], at: usize, bytes: &[u8], end: u8) -> usize
     requires { ⌜ at + length (hex (now bytes) ++ (end ∷ [])) ≤ length (now out) ⌝ }
     ensures { λ r. ⌜ Wrote (now (out .entry)) at (hex (now (bytes .entry)) ++ (end ∷ [])) r (now (out .exit)) ⌝ }
 {

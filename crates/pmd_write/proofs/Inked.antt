@@ -9,9 +9,9 @@ use lib.Seq.{length-take-le}
 use Rattle.runs.specs.Digits.{digits, Bytes}
 use Rattle.runs.specs.Over.{Wrote}
 use Rattle.runs.proofs.Below.{below-take}
-use Rattle.bits.specs.Pen.{written, lastByte, lacking, PenOk, PenFits, PutField}
+use Rattle.bits.specs.Pen.{penned, lastByte, lacking, PenOk, PenFits, PutField}
 use Rattle.bits.specs.declared.Pen.{Pen}
-use Rattle.bits.proofs.Written.{pen-start, length-written, pen-on, pen-moved, pen-length, pen-rest, pen-ok, pen-closed, closed-size, closed-length, closed-rest}
+use Rattle.bits.proofs.Penned.{pen-start, length-penned, pen-on, pen-moved, pen-length, pen-rest, pen-ok, pen-closed, closed-size, closed-length, closed-rest}
 use Rattle.refusals.specs.Outcomes.{Outcome, fine, andThen}
 use Rattle.refusals.specs.declared.Answer.the-variants as A
 use Rattle.refusals.specs.Lent.{Delivered}
@@ -22,17 +22,17 @@ use Rattle.pmd.proofs.Frame.{Frame, frame-then, frame-over}
 
 pub record Inked (pen : Pen) (out bs : List ℕ) : Type 0 where
   pub ok : PenOk pen out
-  pub wrote : written pen out ≡ bs
+  pub wrote : penned pen out ≡ bs
 
 pub inked-begins : (out : List ℕ) → Inked (record { at = 0; count = 0; held = 0 }) out []
 inked-begins out = record { ok = record { few = lit< tt; small = lit< tt; inside = omega arith }; wrote = pen-start out }
 
 pub inked-long : {pen : Pen} {out bs : List ℕ} → Inked pen out bs → length bs ≡ 8 * pen .at + pen .count
-inked-long k = ap length (sym (k .wrote)) ∙ length-written (k .ok)
+inked-long k = ap length (sym (k .wrote)) ∙ length-penned (k .ok)
 
 -- a field more
 module _ {pen q : Pen} {w v : ℕ} {out after : List ℕ} (fits : PenFits pen w v out) (put : PutField pen w v out q after) where
-  pub inked-on : {bs : List ℕ} → written pen out ≡ bs → Inked q after (bs ++ digits 2 w v)
+  pub inked-on : {bs : List ℕ} → penned pen out ≡ bs → Inked q after (bs ++ digits 2 w v)
   inked-on e = record { ok = pen-ok fits put; wrote = pen-on fits put ∙ ap (λ (l : List ℕ). l ++ digits 2 w v) e }
 
   pub frame-put : Frame out (pen .at) after (q .at)

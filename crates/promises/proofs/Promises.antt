@@ -41,7 +41,7 @@ use Rattle.pack_layout.proofs.Sound as sound
 use Rattle.runs.specs.Those.{those, Each}
 use Rattle.scrub_kept.specs.Sheet.{Sheet, sheetOf}
 use Rattle.scrub_kept.specs.Kept.{keptItems, kept}
-use Rattle.scrub_kept.specs.Placed.{Placed, grouped, placed, onSheet, Holds, namedBy}
+use Rattle.scrub_kept.specs.Placed.{Placed, grouped, placed, onSheet, HasPayload, namedBy}
 use Rattle.scrub_kept.specs.Written.{free}
 use Rattle.scrub_kept.specs.Scrubbed.{scrubbed, leaves, ReadsAs}
 use Rattle.scrub_kept.proofs.Demand3 as demand
@@ -169,7 +169,7 @@ pub kept-whole : (sh : Sheet) (xs : List SaidItem) → placed (keptItems sh xs) 
 kept-whole = demand.kept-whole
 
 -- And it stays in the item that it stood in: nothing is moved into another Sync or out of one, and no Sync is kept without a payload.
-pub kept-in-place : (sh : Sheet) (xs : List SaidItem) → (grouped (keptItems sh xs) ≡ namedBy sh xs) × Each Holds (keptItems sh xs)
+pub kept-in-place : (sh : Sheet) (xs : List SaidItem) → (grouped (keptItems sh xs) ≡ namedBy sh xs) × Each HasPayload (keptItems sh xs)
 kept-in-place sh xs = (demand.kept-in-place sh xs, demand.kept-filled sh xs)
 
 -- The number that a label is mapped to is from 64 up, is not taken, and every smaller number from 64 up is taken.

@@ -24,14 +24,14 @@ pub data Line : Type 0 where
 abbrev pub saidBy : List ℕ → Outcome Said
 saidBy s = andThen (reading s) (λ r. fine (meant s r))
 
-abbrev pub Holds : Line → Type 0
-Holds (pack rest expected) = saidBy (key ++ rest) ≡ expected
-Holds (value kind s expected) = pmd.reading kind s ≡ expected
-Holds (gain g expected) = levelOf g ≡ expected
+abbrev pub LineHolds : Line → Type 0
+LineHolds (pack rest expected) = saidBy (key ++ rest) ≡ expected
+LineHolds (value kind s expected) = pmd.reading kind s ≡ expected
+LineHolds (gain g expected) = levelOf g ≡ expected
 
 unfoldable pub All : List Line → Type 0
 All [] = Unit
-All (x ∷ r) = Holds x × All r
+All (x ∷ r) = LineHolds x × All r
 
 -- a pack without offset that has these items
 abbrev pub items : List SaidItem → Outcome Said

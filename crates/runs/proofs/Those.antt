@@ -2,9 +2,9 @@
 use mathlib.Core.Path.{_≡_, refl, sym, ap, subst}
 use mathlib.Core.List.{List, [], _∷_, _++_, map, List·Memᴰ, List·Memᴰ·head, List·Memᴰ·tail, List·Memᴰ·not-nil}
 use mathlib.Core.Bool.{Bool, true}
-use Prim.Native.Nat.{_≤_}
+use Prim.Native.Nat.{ℕ, zero, suc, _<_, _≤_}
 use native.Mathlib.Omega.{arith}
-use lib.ListN.{length}
+use lib.ListN.{length, getD, take, drop, replicate}
 use Rattle.runs.proofs.Cases.{split}
 use Rattle.runs.specs.Those.{those, Each}
 
@@ -27,6 +27,28 @@ module _ {A : Type 0} (P : A → Type 0) where
   each-member [] h m = absurd (List·Memᴰ·not-nil m)
   each-member {x} (y ∷ xs) h (List·Memᴰ·head e) = subst P (sym e) (h .0)
   each-member (y ∷ xs) h (List·Memᴰ·tail m) = each-member xs (h .1) m
+
+  -- of the element at a place
+  pub each-at : (xs : List A) (i : ℕ) (d : A) → Each P xs → i < length xs → P (getD xs i d)
+  each-at [] i d h below = absurd (omega arith)
+  each-at (x ∷ xs) zero d h below = h .0
+  each-at (x ∷ xs) (suc i) d h below = each-at xs i d (h .1) (omega arith)
+
+  -- of the first so many, and of all but those
+  pub each-take : (n : ℕ) (xs : List A) → Each P xs → Each P (take n xs)
+  each-take zero xs h = search
+  each-take (suc n) [] h = search
+  each-take (suc n) (x ∷ xs) h = (h .0, each-take n xs (h .1))
+
+  pub each-drop : (n : ℕ) (xs : List A) → Each P xs → Each P (drop n xs)
+  each-drop zero xs h = h
+  each-drop (suc n) [] h = search
+  each-drop (suc n) (x ∷ xs) h = each-drop n xs (h .1)
+
+  -- of one element again and again
+  pub each-same : (n : ℕ) (d : A) → P d → Each P (replicate n d)
+  each-same zero d h = search
+  each-same (suc n) d h = (h, each-same n d h)
 
   -- of the elements of two lists
   pub each-append : (xs ys : List A) → Each P xs → Each P ys → Each P (xs ++ ys)

@@ -14,7 +14,7 @@ use Rattle.pack.specs.Reading.{Read, reading, slots, padded}
 use Rattle.pack.specs.Meaning.{meant}
 use Rattle.pack.specs.Rows.{RowsFit}
 use Rattle.pack.proofs.Padded.{take-padded}
-use Rattle.pack.proofs.Rows.{rows-taken}
+use Rattle.pack.proofs.Slots.{rows-taken}
 use Rattle.pack_layout.proofs.Shown.{rows-fit}
 use Rattle.scrub_kept.specs.Sheet.{Sheet}
 use Rattle.scrub_kept.specs.Kept.{kept}

@@ -17,7 +17,7 @@ use Rattle.pack.specs.declared.Reading.{Reading}
 use Rattle.pack.specs.Items.{countOf}
 use Rattle.pack.specs.Fixed.{packCap}
 use Rattle.pack.specs.Reading.{Read, reading, slots, blank, shown}
-use Rattle.pack.proofs.Rows.{slots-count}
+use Rattle.pack.proofs.Slots.{slots-count}
 use Rattle.pack.specs.Meaning.{meant}
 use Rattle.pack.specs.Said.{Said}
 use Rattle.scrub_kept.specs.Sheet.{Sheet, sheetOf}
@@ -28,7 +28,7 @@ use Rattle.scrub_kept.proofs.Sizes.{written-bytes, written-length}
 use Rattle.scrub_kept.proofs.Scrubbing.{scrub-is, room-enough, room-short}
 use Rattle.scrub_sheet.specs.declared.Asked.{Asked}
 use Rattle.scrub_sheet.specs.declared.Asked.the-variants as K
-use Rattle.scrub_sheet.specs.Judged.{judged, asks, outcome}
+use Rattle.scrub_sheet.specs.Judged.{sheetAsked, asks, outcome}
 use Rattle.scrub_sheet.proofs.Header.{judged-outcome, judged-holds}
 use Rattle.scrub_write.specs.Laid.{contentAt, framed, sealed, Packed, Packs}
 use Rattle.pack_slots.specs.Slots.{slotsIn}
@@ -50,13 +50,13 @@ fine-outcome s K.All e = refl
 fine-outcome s (K.These l t) e = refl
 fine-outcome s K.Refused e = absurd-eq (cc)
 
-pub good-sheet : (sheet : List ℕ) (x : Asked) → x ≡ judged sheet → isRefused x ≡ false → Good sheet x
+pub good-sheet : (sheet : List ℕ) (x : Asked) → x ≡ sheetAsked sheet → isRefused x ≡ false → Good sheet x
 good-sheet sheet x e h = record {
   is = sym (judged-outcome sheet) ∙ ap (outcome sheet) (sym e) ∙ fine-outcome sheet x h;
   holds = rw e (judged-holds sheet);
 }
 
-pub sheet-refused : (sheet s before : List ℕ) (x : Asked) → x ≡ judged sheet → isRefused x ≡ true → Scrubs sheet s before (A.Refused R.Sheet 0) before
+pub sheet-refused : (sheet s before : List ℕ) (x : Asked) → x ≡ sheetAsked sheet → isRefused x ≡ true → Scrubs sheet s before (A.Refused R.Sheet 0) before
 unfolding scrubbed andThen answered leaves
 sheet-refused sheet s before x e h =
     let z : sheetOf sheet ≡ refused R.Sheet 0 = sym (judged-outcome sheet) ∙ ap (outcome sheet) (sym e) ∙ refused-outcome sheet x h in

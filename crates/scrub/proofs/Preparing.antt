@@ -15,7 +15,7 @@ use Rattle.pack.specs.Items.{Part, countOf}
 use Rattle.pack.specs.Reading.{Read, reading, slots, padded}
 use Rattle.pack.specs.Meaning.{meantPart, meant}
 use Rattle.pack.proofs.Padded.{take-padded}
-use Rattle.pack.proofs.Rows.{slots-count}
+use Rattle.pack.proofs.Slots.{slots-count}
 use Rattle.pack_layout.specs.Layout.{Entry, configBytes, chunksBytes}
 use Rattle.pack_layout.proofs.Bounds as B
 use Rattle.runs.specs.Those.{Each}

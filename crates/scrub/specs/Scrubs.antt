@@ -10,7 +10,7 @@ use Rattle.scrub_kept.specs.Sheet.{sheetOf}
 use Rattle.scrub_kept.specs.Scrubbed.{scrubbed, scrubAnswer, leaves}
 use Rattle.scrub_sheet.specs.declared.Asked.{Asked}
 use Rattle.scrub_sheet.specs.declared.Asked.the-variants as K
-use Rattle.scrub_sheet.specs.Judged.{asks, Holds}
+use Rattle.scrub_sheet.specs.Judged.{asks, EntriesThere}
 
 -- the answer and the buffer are those of the scrub of the pack s by the bytes of a sheet
 pub record Scrubs (sheet s before : List ℕ) (r : Answer) (after : List ℕ) : Type 0 where
@@ -26,4 +26,4 @@ isRefused K.Refused = true
 -- a sheet that is good, and what it asks for
 pub record Good (sheet : List ℕ) (asked : Asked) : Type 0 where
   pub is : sheetOf sheet ≡ fine (asks sheet asked)
-  pub holds : Holds sheet asked
+  pub holds : EntriesThere sheet asked

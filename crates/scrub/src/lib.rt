@@ -6,7 +6,7 @@ ghost use Rattle.pack.specs.Reading.{Read, reading};
 ghost use Rattle.pack.specs.Meaning.{meant};
 ghost use Rattle.pack_slots.specs.Slots.{slotsIn};
 ghost use Rattle.scrub_kept.specs.Kept.{kept};
-ghost use Rattle.scrub_sheet.specs.Judged.{asks, Holds};
+ghost use Rattle.scrub_sheet.specs.Judged.{asks, EntriesThere};
 ghost use Rattle.scrub_write.specs.Ops.{opsIn};
 ghost use Rattle.scrub.specs.Ready.{Accepts, Ready};
 ghost use Rattle.scrub.specs.Scrubs.{Scrubs, isRefused, Good};
@@ -22,7 +22,7 @@ pub struct Sizes {
 
 // Keeps, names and plans: one forward pass over the slots and one backward. The labels that are mapped, by first appearance, their new tags and
 // the writes go into the last three arrays, which come empty.
-pub fn prepare(
+fn prepare(
     sheet: &[u8],
     asked: Asked,
     p: &[u8],
@@ -35,7 +35,7 @@ pub fn prepare(
     tags: &mut [u32; 64],
     ops: &mut [u32; 256],
 ) -> Sizes
-    requires { ⌜ Accepts (now p) offset mapped (now places) (slotsIn (now slots)) count × Holds (now sheet) asked
+    requires { ⌜ Accepts (now p) offset mapped (now places) (slotsIn (now slots)) count × EntriesThere (now sheet) asked
         × (now order ≡ replicate 64 0) × (now tags ≡ replicate 64 0) × (now ops ≡ replicate 256 0) ⌝ }
     ensures { λ r. ⌜ ((q : Read) → reading (now (p .entry)) ≡ fine q
         → Ready (kept (asks (now (sheet .entry)) asked) (meant (now (p .entry)) q)) (now (p .entry)) offset (now (places .entry))

@@ -21,7 +21,7 @@ use Rattle.pack_layout.specs.Layout.{Entry, noConfig, entriesLaid}
 use Rattle.runs.specs.Those.{those, Each}
 use Rattle.scrub_kept.specs.Sheet.{Sheet, sheetOf}
 use Rattle.scrub_kept.specs.Kept.{keptItems, kept}
-use Rattle.scrub_kept.specs.Placed.{Placed, grouped, placed, onSheet, Holds, namedBy}
+use Rattle.scrub_kept.specs.Placed.{Placed, grouped, placed, onSheet, HasPayload, namedBy}
 use Rattle.scrub_kept.specs.Written.{numbersIn, labelsIn, free, assigned, described, written}
 use Rattle.scrub_kept.specs.Scrubbed.{scrubbed, scrubAnswer, leaves, ReadsAs}
 use Rattle.runs.proofs.Those.{those-pass}
@@ -76,7 +76,7 @@ pub kept-in-place : (sh : Sheet) (xs : List SaidItem) → grouped (keptItems sh 
 kept-in-place = kept-grouped
 
 -- No Sync is kept without a payload.
-pub kept-filled : (sh : Sheet) (xs : List SaidItem) → Each Holds (keptItems sh xs)
+pub kept-filled : (sh : Sheet) (xs : List SaidItem) → Each HasPayload (keptItems sh xs)
 kept-filled = kept-hold
 
 -- TAGS

@@ -10,7 +10,7 @@ use Rattle.pack.specs.Said.{SaidPayload, SaidItem, single, sync, Said, total}
 use Rattle.runs.specs.Those.{those, Each}
 use Rattle.scrub_kept.specs.Sheet.{Sheet}
 use Rattle.scrub_kept.specs.Kept.{keeps, keptPayloads, keptSync, keptItems, kept}
-use Rattle.scrub_kept.specs.Placed.{Within, outside, inside, Placed, placedIn, grouped, placed, onSheet, Holds, holdsOne, namedBy}
+use Rattle.scrub_kept.specs.Placed.{Within, outside, inside, Placed, placedIn, grouped, placed, onSheet, HasPayload, holdsOne, namedBy}
 use Rattle.runs.proofs.Those.{those-pass, those-each, those-few, those-same, those-append, those-map}
 use Rattle.scrub_kept.proofs.Sayable.{SayablePayload, SayableItem, Sayable}
 
@@ -59,12 +59,12 @@ module _ (sheet : Sheet) where
       ap flatten (kept-grouped xs) ∙ flatten-filled gs ∙ flatten-those (onSheet sheet) (grouped xs)
 
   -- no Sync is kept without a payload
-  sync-holds : (o d : ℕ) (xs : List SaidPayload) (r : List SaidItem) → Each Holds r → Each Holds (keptSync o d xs r)
+  sync-holds : (o d : ℕ) (xs : List SaidPayload) (r : List SaidItem) → Each HasPayload r → Each HasPayload (keptSync o d xs r)
   unfolding keptSync
   sync-holds o d [] r h = h
   sync-holds o d (x ∷ xs) r h = (omega arith, h)
 
-  pub kept-hold : (xs : List SaidItem) → Each Holds (keptItems sheet xs)
+  pub kept-hold : (xs : List SaidItem) → Each HasPayload (keptItems sheet xs)
   unfolding keptItems
   kept-hold [] = search
   kept-hold (single x ∷ r) = let i = kept-hold r in split (keeps sheet (x .name)) (λ e. rw e (tt, i)) (λ e. rw e i)
@@ -138,7 +138,7 @@ unfolding payloads
 payloads-of o d [] = refl
 payloads-of o d (x ∷ xs) = ap (λ (t : List SaidPayload). x ∷ t) (payloads-of o d xs)
 
-item-of : (x y : SaidItem) → Holds x → Holds y → placedIn x ≡ placedIn y → x ≡ y
+item-of : (x y : SaidItem) → HasPayload x → HasPayload y → placedIn x ≡ placedIn y → x ≡ y
 unfolding withins payloads
 item-of (single x) (single y) h g e = let l : x ∷ [] ≡ y ∷ [] = ap payloads e in cc
 item-of (single x) (sync o d []) h g e = absurd (omega arith)
@@ -153,7 +153,7 @@ item-of (sync o d (x ∷ xs)) (sync p c (y ∷ ys)) h g e =
     let m : x ∷ xs ≡ y ∷ ys = sym (payloads-of o d (x ∷ xs)) ∙ ap payloads e ∙ payloads-of p c (y ∷ ys) in
     cc
 
-pub groups-tell : (xs ys : List SaidItem) → Each Holds xs → Each Holds ys → grouped xs ≡ grouped ys → xs ≡ ys
+pub groups-tell : (xs ys : List SaidItem) → Each HasPayload xs → Each HasPayload ys → grouped xs ≡ grouped ys → xs ≡ ys
 groups-tell [] [] h g e = refl
 groups-tell [] (y ∷ ys) h g e = absurd-eq (cc)
 groups-tell (x ∷ xs) [] h g e = absurd-eq (cc)

@@ -35,9 +35,9 @@ abbrev pub onSheet : Sheet → Placed → Bool
 onSheet sheet p = keeps sheet (p .payload .name)
 
 -- an item holds a payload: of a Sync this must be said
-abbrev pub Holds : SaidItem → Type 0
-Holds (single x) = Unit
-Holds (sync o d xs) = 0 < length xs
+abbrev pub HasPayload : SaidItem → Type 0
+HasPayload (single x) = Unit
+HasPayload (sync o d xs) = 0 < length xs
 
 -- whether a group has a payload
 abbrev pub holdsOne : List Placed → Bool

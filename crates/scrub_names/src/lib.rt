@@ -9,7 +9,7 @@ ghost use Rattle.pack.specs.Fixed.{itemCap, mappingCap};
 ghost use Rattle.pack.specs.Reading.{padded};
 ghost use Rattle.pack.specs.Rows.{NameFits, ItemFits, RowsFit};
 ghost use Rattle.pack_slots.specs.Slots.{slotsIn};
-ghost use Rattle.scrub_sheet.specs.Judged.{asks, Holds, Short};
+ghost use Rattle.scrub_sheet.specs.Judged.{asks, EntriesThere, Short};
 ghost use Rattle.scrub_names.specs.Marks.{flagsOf, markName, markItem, marksOf, marked, markAt, marksIn, Noted, PlacesFit};
 ghost use Rattle.scrub_names.specs.Given.{clearAt, given, byIndex, EachBelow};
 use pack::Item;
@@ -25,7 +25,7 @@ pub enum Mark {
 
 // For each label of the pack whether the sheet keeps it.
 pub fn flags(s: &[u8], asked: Asked, p: &[u8], places: &[u32; 32], mapped: usize) -> [bool; 32]
-    requires { ⌜ (mapped ≤ 32) × PlacesFit (now p) (take mapped (now places)) × Holds (now s) asked ⌝ }
+    requires { ⌜ (mapped ≤ 32) × PlacesFit (now p) (take mapped (now places)) × EntriesThere (now s) asked ⌝ }
     ensures { λ r. ⌜ r ≡ padded mappingCap false (flagsOf (asks (now (s .entry)) asked) (now (p .entry)) (take mapped (now (places .entry)))) ⌝ }
 {
     // a slice, whose length is known
@@ -42,7 +42,7 @@ pub fn flags(s: &[u8], asked: Asked, p: &[u8], places: &[u32; 32], mapped: usize
 
 // Whether the payloads of a name stay.
 fn mark_name(s: &[u8], asked: Asked, flags: &[bool; 32], short: &[bool; 128], name: Name) -> Mark
-    requires { ⌜ NameFits name × Holds (now s) asked × Short (asks (now s) asked) (now short) ⌝ }
+    requires { ⌜ NameFits name × EntriesThere (now s) asked × Short (asks (now s) asked) (now short) ⌝ }
     ensures { λ r. ⌜ r ≡ markName (now (flags .entry)) (asks (now (s .entry)) asked) name ⌝ }
 {
     match name {
@@ -62,7 +62,7 @@ fn mark_name(s: &[u8], asked: Asked, flags: &[bool; 32], short: &[bool; 128], na
 }
 
 fn mark_item(s: &[u8], asked: Asked, flags: &[bool; 32], short: &[bool; 128], item: Item) -> Mark
-    requires { ⌜ ItemFits item × Holds (now s) asked × Short (asks (now s) asked) (now short) ⌝ }
+    requires { ⌜ ItemFits item × EntriesThere (now s) asked × Short (asks (now s) asked) (now short) ⌝ }
     ensures { λ r. ⌜ r ≡ markItem (now (flags .entry)) (asks (now (s .entry)) asked) item ⌝ }
 {
     match item {
@@ -127,7 +127,7 @@ pub fn note(
     order: &mut [u32; 64],
     taken: &mut [bool; 64],
 ) -> usize
-    requires { ⌜ (count ≤ 64) × RowsFit (take count (slotsIn (now slots))) × Holds (now s) asked × (now marks ≡ replicate 128 0) × (now order ≡ replicate 64 0) × (now taken ≡ replicate 64 false) ⌝ }
+    requires { ⌜ (count ≤ 64) × RowsFit (take count (slotsIn (now slots))) × EntriesThere (now s) asked × (now marks ≡ replicate 128 0) × (now order ≡ replicate 64 0) × (now taken ≡ replicate 64 false) ⌝ }
     ensures { λ r. ⌜ Noted (marksOf (now (flags .entry)) (asks (now (s .entry)) asked) (take count (slotsIn (now (slots .entry))))) (record { marks = marksIn (now (marks .exit)); order = now (order .exit); labels = r; taken = now (taken .exit) }) ⌝ }
 {
     let short = scrub_sheet::short_numbers(s, asked);

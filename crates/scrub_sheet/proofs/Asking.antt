@@ -10,7 +10,7 @@ use Rattle.scrub_kept.specs.Sheet.{labelsAt, numbersAt}
 use Rattle.scrub_kept.specs.Kept.{keeps}
 use Rattle.scrub_sheet.specs.declared.Asked.{Asked}
 use Rattle.scrub_sheet.specs.declared.Asked.the-variants as K
-use Rattle.scrub_sheet.specs.Judged.{asks, Holds}
+use Rattle.scrub_sheet.specs.Judged.{asks, EntriesThere}
 
 module _ (s : List ℕ) {x : Asked} where
   pub all-keeps : (n : SaidName) → x ≡ K.All → true ≡ keeps (asks s x) n
@@ -25,8 +25,8 @@ module _ (s : List ℕ) {x : Asked} where
   none-number t e = rw e
 
   module _ (l t : ℕ) (e : x ≡ K.These l t) where
-    pub these-hold : Holds s x → 8 + 16 * l + 4 * t ≤ length s
-    these-hold h = subst (Holds s) e h
+    pub these-hold : EntriesThere s x → 8 + 16 * l + 4 * t ≤ length s
+    these-hold h = subst (EntriesThere s) e h
 
     pub these-label : (m : List ℕ) {r : Bool} → r ≡ listed m (labelsAt s 8 l) → r ≡ keeps (asks s x) (label m)
     these-label m h = rw e h

@@ -11,7 +11,7 @@ use Rattle.runs.proofs.Cases.{split, absurd-eq}
 use Rattle.numbers.specs.Big.{bigAt}
 use Rattle.scrub_kept.specs.Sheet.{labelsAt, numbersAt, sheetCap, headerGood, labelsGood, numbersGood, sheetLabels, sheetNumbers, sheetOf}
 use Rattle.scrub_sheet.specs.declared.Asked.the-variants as K
-use Rattle.scrub_sheet.specs.Judged.{judged, outcome, Holds}
+use Rattle.scrub_sheet.specs.Judged.{sheetAsked, outcome, EntriesThere}
 
 module _ (s : List ℕ) where
   pub header-short : length s < 8 → headerGood s ≡ false
@@ -61,38 +61,38 @@ pub header-long : (s : List ℕ) → headerGood s ≡ true → 8 ≤ length s
 header-long s h = omega (arith, header-counts s h)
 
 module _ (s : List ℕ) where
-  pub judged-all : length s ≡ 0 → K.All ≡ judged s
-  unfolding judged
+  pub judged-all : length s ≡ 0 → K.All ≡ sheetAsked s
+  unfolding sheetAsked
   judged-all e = rw (eq-eqb (length s) 0 e)
 
   module _ (n : length s ≡ 0 → ⊥) where
-    pub judged-header : headerGood s ≡ false → K.Refused ≡ judged s
-    unfolding judged
+    pub judged-header : headerGood s ≡ false → K.Refused ≡ sheetAsked s
+    unfolding sheetAsked
     judged-header e = rw (ne-eqb (length s) 0 n, e)
 
     module _ (l t : ℕ) (le : l ≡ bigAt s 0 2) (te : t ≡ bigAt s 4 2) (h : headerGood s ≡ true) where
-      pub judged-labels : labelsGood (labelsAt s 8 l) ≡ false → K.Refused ≡ judged s
-      unfolding judged
+      pub judged-labels : labelsGood (labelsAt s 8 l) ≡ false → K.Refused ≡ sheetAsked s
+      unfolding sheetAsked
       judged-labels e = rw (ne-eqb (length s) 0 n, h, ← le, e)
 
-      pub judged-numbers : labelsGood (labelsAt s 8 l) ≡ true → numbersGood (numbersAt s (8 + 16 * l) t) ≡ false → K.Refused ≡ judged s
-      unfolding judged
+      pub judged-numbers : labelsGood (labelsAt s 8 l) ≡ true → numbersGood (numbersAt s (8 + 16 * l) t) ≡ false → K.Refused ≡ sheetAsked s
+      unfolding sheetAsked
       judged-numbers e f = rw (ne-eqb (length s) 0 n, h, ← le, ← te, e, f)
 
-      pub judged-good : labelsGood (labelsAt s 8 l) ≡ true → numbersGood (numbersAt s (8 + 16 * l) t) ≡ true → K.These l t ≡ judged s
-      unfolding judged
+      pub judged-good : labelsGood (labelsAt s 8 l) ≡ true → numbersGood (numbersAt s (8 + 16 * l) t) ≡ true → K.These l t ≡ sheetAsked s
+      unfolding sheetAsked
       judged-good e f = rw (ne-eqb (length s) 0 n, h, ← le, ← te, e, f)
 
--- what is judged is the sheet of document 01, and its entries are there
-pub judged-outcome : (s : List ℕ) → outcome s (judged s) ≡ sheetOf s
-unfolding judged sheetOf
+-- what is sheetAsked is the sheet of document 01, and its entries are there
+pub judged-outcome : (s : List ℕ) → outcome s (sheetAsked s) ≡ sheetOf s
+unfolding sheetAsked sheetOf
 judged-outcome s =
     split (eqb (length s) 0)
     (λ e. rw e)
     (λ e. split (headerGood s && (labelsGood (sheetLabels s) && numbersGood (sheetNumbers s))) (λ f. rw (e, f)) (λ f. rw (e, f)))
 
-pub judged-holds : (s : List ℕ) → Holds s (judged s)
-unfolding judged
+pub judged-holds : (s : List ℕ) → EntriesThere s (sheetAsked s)
+unfolding sheetAsked
 judged-holds s =
     split (eqb (length s) 0)
     (λ e. rw e tt)

@@ -15,8 +15,8 @@ use Rattle.scrub_sheet.specs.declared.Asked.{Asked}
 use Rattle.scrub_sheet.specs.declared.Asked.the-variants as K
 
 -- 0 bytes keep all; else the counts of the entries, or SHEET
-unfoldable pub judged : List ℕ → Asked
-judged s =
+unfoldable pub sheetAsked : List ℕ → Asked
+sheetAsked s =
     cond (eqb (length s) 0)
     K.All
     (cond (headerGood s && (labelsGood (sheetLabels s) && numbersGood (sheetNumbers s))) (K.These (bigAt s 0 2) (bigAt s 4 2)) K.Refused)
@@ -33,10 +33,10 @@ outcome s (K.These l t) = fine (these (labelsAt s 8 l) (numbersAt s (8 + 16 * l)
 outcome s K.Refused = refused R.Sheet 0
 
 -- the entries that are counted are there
-abbrev pub Holds : List ℕ → Asked → Type 0
-Holds s K.All = Unit
-Holds s (K.These l t) = 8 + 16 * l + 4 * t ≤ length s
-Holds s K.Refused = Unit
+abbrev pub EntriesThere : List ℕ → Asked → Type 0
+EntriesThere s K.All = Unit
+EntriesThere s (K.These l t) = 8 + 16 * l + 4 * t ≤ length s
+EntriesThere s K.Refused = Unit
 
 -- for each number below 128 whether the sheet keeps its payloads
 abbrev pub Short : Sheet → List Bool → Type 0

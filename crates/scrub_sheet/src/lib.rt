@@ -7,7 +7,7 @@ ghost use Rattle.runs.specs.Same.{among, listed};
 ghost use Rattle.pack.specs.Said.{label, number};
 ghost use Rattle.scrub_kept.specs.Sheet.{labelsAt, numbersAt, labelsGood, numbersGood, headerGood};
 ghost use Rattle.scrub_kept.specs.Kept.{keeps};
-ghost use Rattle.scrub_sheet.specs.Judged.{judged, asks, Holds, Short};
+ghost use Rattle.scrub_sheet.specs.Judged.{sheetAsked, asks, EntriesThere, Short};
 
 // What a sheet asks for: all, its labels and numbers by their counts, or nothing since it is malformed.
 pub enum Asked {
@@ -142,7 +142,7 @@ fn header_good(s: &[u8]) -> bool
 
 // Judges the bytes of a sheet.
 pub fn judge(s: &[u8]) -> Asked
-    ensures { λ r. ⌜ r ≡ judged (now (s .entry)) ⌝ }
+    ensures { λ r. ⌜ r ≡ sheetAsked (now (s .entry)) ⌝ }
 {
     if s.len() == 0 {
         return Asked::All;
@@ -166,7 +166,7 @@ pub fn judge(s: &[u8]) -> Asked
 
 // Whether a sheet keeps the payloads of the label at `at` of the pack.
 pub fn keeps_label(s: &[u8], asked: Asked, p: &[u8], at: usize) -> bool
-    requires { ⌜ (at + 16 ≤ length (now p)) × Holds (now s) asked ⌝ }
+    requires { ⌜ (at + 16 ≤ length (now p)) × EntriesThere (now s) asked ⌝ }
     ensures { λ r. ⌜ r ≡ keeps (asks (now (s .entry)) asked) (label (take 16 (drop at (now (p .entry))))) ⌝ }
 {
     match asked {
@@ -178,7 +178,7 @@ pub fn keeps_label(s: &[u8], asked: Asked, p: &[u8], at: usize) -> bool
 
 // For each number below 128 whether a sheet keeps its payloads. Most tags have one byte: a pack asks this once, and not the sheet for each payload.
 pub fn short_numbers(s: &[u8], asked: Asked) -> [bool; 128]
-    requires { ⌜ Holds (now s) asked ⌝ }
+    requires { ⌜ EntriesThere (now s) asked ⌝ }
     ensures { λ r. ⌜ Short (asks (now (s .entry)) asked) r ⌝ }
 {
     match asked {
@@ -190,7 +190,7 @@ pub fn short_numbers(s: &[u8], asked: Asked) -> [bool; 128]
 
 // Whether a sheet keeps the payloads of a tag number that the pack does not map. `short` has its answers below 128.
 pub fn keeps_number(s: &[u8], asked: Asked, short: &[bool; 128], n: u32) -> bool
-    requires { ⌜ Holds (now s) asked × Short (asks (now s) asked) (now short) ⌝ }
+    requires { ⌜ EntriesThere (now s) asked × Short (asks (now s) asked) (now short) ⌝ }
     ensures { λ r. ⌜ r ≡ keeps (asks (now (s .entry)) asked) (number n) ⌝ }
 {
     if n < 128 {

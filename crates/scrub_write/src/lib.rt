@@ -251,7 +251,7 @@ fn write_op(p: &[u8], op: Op, out: &mut [u8], at: usize) -> usize
 }
 
 // The first `count` writes, one after the other.
-pub fn write_ops(p: &[u8], ops: &[u32; 256], count: usize, out: &mut [u8], at: usize) -> usize
+fn write_ops(p: &[u8], ops: &[u32; 256], count: usize, out: &mut [u8], at: usize) -> usize
     requires { ⌜ (count ≤ 64) × (at + length (opsBytes (now p) (take count (opsIn (now ops)))) ≤ length (now out)) × OpsFit (now p) (take count (opsIn (now ops))) ⌝ }
     ensures { λ r. ⌜ Wrote (now (out .entry)) at (opsBytes (now (p .entry)) (take count (opsIn (now (ops .entry))))) r (now (out .exit)) ⌝ }
 {

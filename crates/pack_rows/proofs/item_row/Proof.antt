@@ -1,7 +1,7 @@
 -- `pack_rows::item_row` meets its contract. By the item.
 use mathlib.Core.Path.{_∙_}
 use borrow.Author.Needs.{needs}
-use Rattle.pack.proofs.Rows.{single-fits, inner-fits}
+use Rattle.pack.proofs.Slots.{single-fits, inner-fits}
 use Rattle.pack_rows.proofs.Laws.{row-single, row-inner, row-sync}
 use Rattle.pack_rows.proofs.item_row.Statement.{statement}
 use Rattle.pack_rows.proofs.item_row.Tie as tie

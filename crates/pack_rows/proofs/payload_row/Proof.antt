@@ -1,6 +1,6 @@
 -- `pack_rows::payload_row` meets its contract. By the payload's name.
 use borrow.Author.Needs.{needs}
-use Rattle.pack.proofs.Rows.{label-fits}
+use Rattle.pack.proofs.Slots.{label-fits}
 use Rattle.pack_rows.proofs.Laws.{row-number, row-label}
 use Rattle.pack_rows.proofs.payload_row.Statement.{statement}
 use Rattle.pack_rows.proofs.payload_row.Tie as tie

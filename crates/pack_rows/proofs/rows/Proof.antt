@@ -13,8 +13,8 @@ use Rattle.pack.specs.Reading.{blank}
 use Rattle.pack.specs.Rows.{ItemFits}
 use Rattle.pack.specs.declared.Slot.{Slot}
 use Rattle.pack.specs.declared.Reading.{Reading}
-use Rattle.pack.proofs.Rows.{row-fits}
-use Rattle.pack_slots.specs.Slots.{itemAt, slotsIn}
+use Rattle.pack.proofs.Slots.{row-fits}
+use Rattle.pack_slots.specs.Slots.{slotItem, slotsIn}
 use Rattle.pack_slots.proofs.Laws.{slot-in}
 use Rattle.pack_read.specs.Shown.{assembled}
 use Rattle.pack_read.proofs.Outlines.{outlined-none}
@@ -59,8 +59,8 @@ left : (c : tie.In-loop Inv-loop μ-loop)
     let slots = k .before .before .before .read-into .last .1 .0 in
     let n = k .before .answer .given .0 .0 in
     let l = c .before .loop in
-    Writing (p .put-row .last .0) (p .put-row .result) (itemRows (f .labels) (take n (f .items))) (l .out) (l .next)
-    (itemRow (f .labels) (itemAt slots (8 * l .i)) ++ itemRows (f .labels) (drop (l .i + 1) (take n (f .items))))
+    Writing (p .put-cell .last .0) (p .put-cell .result) (itemRows (f .labels) (take n (f .items))) (l .out) (l .next)
+    (itemRow (f .labels) (slotItem slots (8 * l .i)) ++ itemRows (f .labels) (drop (l .i + 1) (take n (f .items))))
 left c =
     let k = accepted (c .before .before) in
     let f = found (k .before .before .before) in
@@ -103,14 +103,14 @@ returns-2 c =
 pack-row-requires : tie.Need-pack-row-requires Inv-loop μ-loop
 pack-row-requires c κs = told (c .before) .few
 
-put-row-requires : tie.Need-put-row-requires Inv-loop μ-loop
-put-row-requires c κs = omega (arith, c .before .before .if1 .left)
+put-cell-requires : tie.Need-put-cell-requires Inv-loop μ-loop
+put-cell-requires c κs = omega (arith, c .before .before .if1 .left)
 
 loop-holds : tie.Need-loop-holds Inv-loop μ-loop
 loop-holds c =
     let p = c .before .before in
     let e = p .before .before .before in
-    (omega arith, writing-begins _ _ _ (omega (arith, told (accepted c) .size, e .if1 .left, p .put-row .ensures .next, p .put-row .kept .0)))
+    (omega arith, writing-begins _ _ _ (omega (arith, told (accepted c) .size, e .if1 .left, p .put-cell .ensures .next, p .put-cell .kept .0)))
 
 item-requires : tie.Need-item-requires Inv-loop μ-loop
 item-requires c κs = omega (arith, told (accepted (c .before .before .before)) .few)
@@ -127,13 +127,13 @@ item-row-requires c κs =
     subst ItemFits (ap (λ (w : Slot). w .item) (getD-take n items (l .i) blank (omega arith) ∙ slot-in slots (l .i) blank (omega (arith, t .few))) ∙ sym (c .before .item .ensures))
     (row-fits (take n items) (l .i) blank (t .fit) (omega arith))
 
-put-row-requires-2 : tie.Need-put-row-requires-2 Inv-loop μ-loop
-put-row-requires-2 c κs =
+put-cell-requires-2 : tie.Need-put-cell-requires-2 Inv-loop μ-loop
+put-cell-requires-2 c κs =
     let g = c .before .before .before .before .before in
     let l = g .before .loop in
     let k = accepted (g .before .before) in
     let f = found (k .before .before .before) in
-    let item = itemAt (k .before .before .before .read-into .last .1 .0) (8 * l .i) in
+    let item = slotItem (k .before .before .before .read-into .last .1 .0) (8 * l .i) in
     let first = itemRow (f .labels) item in
     let more = itemRows (f .labels) (drop (l .i + 1) (take (k .before .answer .given .0 .0) (f .items))) in
     omega (arith, left g .room, length-append first more, item-eight (f .labels) item)
@@ -150,10 +150,10 @@ loop-again c =
     let i = p .before .before in
     let g = i .before .before .before .before in
     let f = found (accepted (g .before .before) .before .before .before) in
-    (omega arith, writing-run _ _ (left g) (wrote-as (i .item-row .ensures ∙ ap (itemRow (f .labels)) (i .before .before .item .ensures)) (p .put-row2 .ensures)))
+    (omega arith, writing-run _ _ (left g) (wrote-as (i .item-row .ensures ∙ ap (itemRow (f .labels)) (i .before .before .item .ensures)) (p .put-cell2 .ensures)))
 
 same-length : tie.Need-same-length Inv-loop μ-loop
-same-length c = c .before .loop .inv .1 .same ∙ c .before .before .before .before .put-row .kept .0
+same-length c = c .before .loop .inv .1 .same ∙ c .before .before .before .before .put-cell .kept .0
 
 returns-3 : tie.Need-returns-3 Inv-loop μ-loop
 returns-3 c =
@@ -169,7 +169,7 @@ returns-3 c =
     let h = k .before .answer .given .1 in
     let m = length-take-le n (f .items) (told k .there) in
     rows-done (b .before .args .pack .now) (b .before .args .out .now) (bytes b) f (r .read-into .ensures .whole n h) n h
-    (omega (arith, e .if1 .left)) (wrote-as (w .pack-row .ensures) (p .put-row .ensures))
+    (omega (arith, e .if1 .left)) (wrote-as (w .pack-row .ensures) (p .put-cell .ensures))
     (writing-done (writing-as (rows-none (f .labels) (take n (f .items)) (l .i) (omega arith)) (l .inv .1)))
 
 pub rows-spec : {M : Type 1} → statement M
@@ -186,11 +186,11 @@ rows-spec =
     mul-if1
     returns-2
     pack-row-requires
-    put-row-requires
+    put-cell-requires
     loop-holds
     item-requires
     item-row-requires
-    put-row-requires-2
+    put-cell-requires-2
     add-i
     loop-less
     loop-again

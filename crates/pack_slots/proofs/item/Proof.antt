@@ -1,6 +1,6 @@
 -- `pack_slots::item` meets its contract. By the form.
 use borrow.Author.Needs.{needs}
-use Rattle.pack_slots.proofs.Rows.{item-sync, item-inner, item-single}
+use Rattle.pack_slots.proofs.Cells.{item-sync, item-inner, item-single}
 use Rattle.pack_slots.proofs.item.Statement.{statement}
 use Rattle.pack_slots.proofs.item.Tie as tie
 

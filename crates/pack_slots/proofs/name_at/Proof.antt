@@ -1,6 +1,6 @@
 -- `pack_slots::name_at` meets its contract. By what names the payload.
 use borrow.Author.Needs.{needs}
-use Rattle.pack_slots.proofs.Rows.{name-label, name-number}
+use Rattle.pack_slots.proofs.Cells.{name-label, name-number}
 use Rattle.pack_slots.proofs.name_at.Statement.{statement}
 use Rattle.pack_slots.proofs.name_at.Tie as tie
 

@@ -11,7 +11,7 @@ use lib.ListN.{length, getD, length-append}
 use Rattle.runs.specs.Digits.{digits}
 use Rattle.runs.proofs.Digits.{length-digits}
 use Rattle.bits.specs.Pen.{PenFits}
-use Rattle.bits.proofs.Written.{closed-length}
+use Rattle.bits.proofs.Penned.{closed-length}
 use Rattle.pmd.specs.declared.Piece.{Piece}
 use Rattle.pmd.specs.Table.{widthOf, asNumber}
 use Rattle.pmd.specs.Records.{goesOn, onward}

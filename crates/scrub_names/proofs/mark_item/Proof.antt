@@ -1,6 +1,6 @@
 -- `scrub_names::mark_item` meets its contract. By cases on the row.
 use borrow.Author.Needs.{needs}
-use Rattle.pack.proofs.Rows.{single-fits, inner-fits}
+use Rattle.pack.proofs.Slots.{single-fits, inner-fits}
 use Rattle.scrub_names.proofs.Naming.{single-mark, inner-mark, sync-mark}
 use Rattle.scrub_names.proofs.mark_item.Statement.{statement}
 use Rattle.scrub_names.proofs.mark_item.Tie as tie

@@ -1,7 +1,7 @@
 -- `scrub_names::mark_name` meets its contract. By cases on the name.
 use mathlib.Core.Path.{sym, _∙_}
 use borrow.Author.Needs.{needs}
-use Rattle.pack.proofs.Rows.{label-fits}
+use Rattle.pack.proofs.Slots.{label-fits}
 use Rattle.scrub_names.proofs.Naming.{label-stays, label-goes, number-stays, number-goes}
 use Rattle.scrub_names.proofs.mark_name.Statement.{statement}
 use Rattle.scrub_names.proofs.mark_name.Tie as tie

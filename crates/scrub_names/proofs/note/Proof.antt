@@ -14,7 +14,7 @@ use borrow.Author.Tests.{not-true, not-false}
 use Rattle.pack.specs.declared.Item.{Item}
 use Rattle.pack.specs.declared.Slot.{Slot}
 use Rattle.pack.specs.Rows.{ItemFits}
-use Rattle.pack.proofs.Rows.{row-fits}
+use Rattle.pack.proofs.Slots.{row-fits}
 use Rattle.pack_slots.specs.Slots.{slotsIn}
 use Rattle.pack_slots.proofs.Laws.{length-in, slot-in}
 use Rattle.scrub_sheet.specs.Judged.{asks}

@@ -1,10 +1,10 @@
--- `pack_slots::put_row` meets its contract: eight stores, one after the other.
+-- `pack_slots::put_cell` meets its contract: eight stores, one after the other.
 use borrow.Author.Needs.{needs}
 use native.Mathlib.Omega.{arith}
 use lib.ListN.{length-set}
 use Rattle.pack_slots.proofs.Stores.{wrote-eight}
-use Rattle.pack_slots.proofs.put_row.Statement.{statement}
-use Rattle.pack_slots.proofs.put_row.Tie as tie
+use Rattle.pack_slots.proofs.put_cell.Statement.{statement}
+use Rattle.pack_slots.proofs.put_cell.Tie as tie
 
 mul-out : tie.Need-mul-out
 mul-out c = search needs
@@ -84,11 +84,11 @@ same-length c = search needs
 returns : tie.Need-returns
 returns c =
     let a = c .args in
-    let r = a .row in
+    let r = a .cell in
     wrote-eight (a .out .now) (a .at) (r .form) (r .start) (r .named) (r .name) (r .«value_start») (r .«value_len») (r .offset) (r .duration) (c .pre)
 
-pub put-row-spec : {M : Type 1} → statement M
-put-row-spec =
+pub put-cell-spec : {M : Type 1} → statement M
+put-cell-spec =
     tie.close
     (tie.spec
     mul-out

@@ -1,8 +1,8 @@
-//! Makes the cases that `crates/scrub_vectors` runs, and by the reference what it must print.
+//! Makes the cases that `crates/vectors_scrub` runs, and by the reference what it must print.
 //!
-//!     cargo run --release --offline --example scrub_vectors
+//!     cargo run --release --offline --example vectors_scrub
 //!
-//! writes `stdin`, the cases, and `stdout`, what is expected, into `crates/scrub_vectors`. The test
+//! writes `stdin`, the cases, and `stdout`, what is expected, into `crates/vectors_scrub`. The test
 //! at the end, which `cargo test` runs, holds these files in the tree to what is made here.
 //!
 //! A case is four numbers of 32 bits, most significant byte first: how many bytes its name, its
@@ -403,7 +403,7 @@ fn made() -> Made {
     let cases = all();
     let input = cases.iter().flat_map(bytes).collect();
     let output: String = cases.iter().map(expected).collect();
-    Made { program: "scrub_vectors", files: [("stdin", input), ("stdout", output.into_bytes())] }
+    Made { program: "vectors_scrub", files: [("stdin", input), ("stdout", output.into_bytes())] }
 }
 
 fn main() -> std::io::Result<()> {

@@ -1,7 +1,7 @@
-//! Makes the cases that the program `crates/pmd_vectors` runs, and the text that it must print.
+//! Makes the cases that the program `crates/vectors_pmd` runs, and the text that it must print.
 //!
 //! ```text
-//! cargo run --release --offline --example pmd_vectors      (in reference/)
+//! cargo run --release --offline --example vectors_pmd      (in reference/)
 //! ```
 //!
 //! writes `stdin` and `stdout` beside that program's sources. The answers are this crate's;
@@ -479,7 +479,7 @@ fn made() -> Made {
     );
     let count = format!("{} cases\n", cases.len());
     let output: String = cases.iter().map(line).chain([count]).collect();
-    Made { program: "pmd_vectors", files: [("stdin", input), ("stdout", output.into_bytes())] }
+    Made { program: "vectors_pmd", files: [("stdin", input), ("stdout", output.into_bytes())] }
 }
 
 fn main() -> std::io::Result<()> {

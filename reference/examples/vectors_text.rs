@@ -1,6 +1,6 @@
-//! Makes the cases that `crates/list_vectors` runs, and by this implementation what it must print.
+//! Makes the cases that `crates/vectors_text` runs, and by this implementation what it must print.
 //!
-//!     cargo run --release --offline --example list_vectors
+//!     cargo run --release --offline --example vectors_text
 //!
 //! writes `data/cases` and `stdout` there; the tests at the end hold the files in the tree to them.
 //!
@@ -247,7 +247,7 @@ fn made() -> Made {
         .collect();
     let text: String =
         cases.iter().map(|(title, pack)| format!("{title}{}", listing(pack))).collect();
-    Made { program: "list_vectors", files: [("data/cases", data), ("stdout", text.into_bytes())] }
+    Made { program: "vectors_text", files: [("data/cases", data), ("stdout", text.into_bytes())] }
 }
 
 fn main() -> std::io::Result<()> {
