@@ -1,6 +1,7 @@
 #!/usr/bin/env bash
 # Holds the pages to the tree: every path that README.md, CHANGELOG.md and docs/ name exists, every theorem that they name is stated
-# (in the file that follows it in brackets, or on the page of promises), and every form of docs/FORMS.md stands at its line.
+# (in the file that follows it in brackets, or on the page of promises), every form of docs/FORMS.md stands at its line, every question of
+# docs/DECISIONS.md is in its index, and the border between trusted and inner specifications is the one that the promises draw.
 # Ends with 'N passed, M failed'.
 set -uo pipefail
 cd "$(dirname "$0")/.." || exit 2
@@ -54,9 +55,62 @@ forms() {
     done < <(grep -oE '`[A-Za-z0-9_]+`, crates/[A-Za-z0-9_/]+\.rt:[0-9]+' docs/FORMS.md | sed -E 's/`([^`]+)`, (.*):([0-9]+)/\1 \2 \3/')
 }
 
+# specs_used FILE: the specification files that its `use` lines name.
+specs_used() {
+    sed -nE 's/^ *(ghost )?use Rattle·([a-z_]+)(\.specs|·specs\.specs)\.([A-Za-z0-9]+).*/crates\/\2\/specs\/\4.antt/p' "$1" | grep -v '/declared\.antt$'
+}
+
+# trusted_specs: the specification files that the page of promises and the contracts of the exports rest on.
+trusted_specs() {
+    local file used todo=("$promises" crates/promises/proofs/Bench.antt crates/ballastwren/src/lib.rt)
+    local -A seen=()
+    while [[ ${#todo[@]} -gt 0 ]]; do
+        file=${todo[0]}
+        todo=("${todo[@]:1}")
+        while read -r used; do
+            [[ -n ${seen[$used]:-} ]] && continue
+            seen[$used]=yes
+            todo+=("$used")
+        done < <(specs_used "$file")
+    done
+    printf '%s\n' "${!seen[@]}" | sort
+}
+
+# The first word of a specification is Trusted where a promise rests on it, else Inner; and docs/TRUST.md lists the trusted files with their lines.
+border() {
+    local file word list lines=0 count=0
+    list=$(trusted_specs)
+    for file in crates/*/specs/*.antt; do
+        [[ $file == */Lib.antt ]] && continue
+        if grep -qxF "$file" <<<"$list"; then word=Trusted; else word=Inner; fi
+        if [[ $(head -n 1 "$file") == "-- $word. "* ]]; then told yes; else told no "$file: its first line does not begin with '-- $word. '"; fi
+    done
+    while read -r file; do
+        count=$((count + 1)) lines=$((lines + $(wc -l <"$file")))
+        if grep -qE "^\\| +$(wc -l <"$file") \\| $file \\|" docs/TRUST.md; then told yes; else told no "docs/TRUST.md does not list $file with $(wc -l <"$file") lines"; fi
+    done <<<"$list"
+    while read -r file; do
+        if grep -qxF "$file" <<<"$list"; then told yes; else told no "docs/TRUST.md lists $file, on which no promise rests"; fi
+    done < <(grep -oE '^\| +[0-9]+ \| crates/[a-z_]+/specs/[A-Za-z]+\.antt' docs/TRUST.md | grep -oE 'crates/.*')
+    if grep -qF "$count files, $lines lines" docs/TRUST.md; then told yes; else told no "docs/TRUST.md: the list has $count files, $lines lines"; fi
+}
+
+# every heading of docs/DECISIONS.md is in the index at its top, and nothing else is.
+index() {
+    local heading
+    while read -r heading; do
+        if grep -qF -- "- [$heading](" docs/DECISIONS.md; then told yes; else told no "docs/DECISIONS.md: '$heading' is not in its index"; fi
+    done < <(sed -nE 's/^## (.*)$/\1/p' docs/DECISIONS.md)
+    while read -r heading; do
+        if grep -qxF -- "## $heading" docs/DECISIONS.md; then told yes; else told no "docs/DECISIONS.md: the index names '$heading', which is not there"; fi
+    done < <(sed -nE 's/^- \[([^]]*)\].*/\1/p' docs/DECISIONS.md)
+}
+
 paths
 theorems_with_files
 theorems_promised
 forms
+border
+index
 echo "$passed passed, $failed failed"
 [[ $failed -eq 0 ]]
