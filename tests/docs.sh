@@ -1,7 +1,8 @@
 #!/usr/bin/env bash
 # Holds the pages to the tree: every path that README.md, CHANGELOG.md and docs/ name exists, every theorem that they name is stated
-# (in the file that follows it in brackets, or on the page of promises), every form of docs/FORMS.md stands at its line, every question of
-# docs/DECISIONS.md is in its index, and the border between trusted and inner specifications is the one that the promises draw.
+# (in the file that follows it in brackets, or on the page of promises), every form of docs/FORMS.md stands at its line, every heading of
+# docs/DECISIONS.md is in its index, every must-fail edit says which wrong answer it is, and the border between trusted and inner specifications
+# is the one that the promises draw.
 # Ends with 'N passed, M failed'.
 set -uo pipefail
 cd "$(dirname "$0")/.." || exit 2
@@ -95,6 +96,14 @@ border() {
     if grep -qF "$count files, $lines lines" docs/TRUST.md; then told yes; else told no "docs/TRUST.md: the list has $count files, $lines lines"; fi
 }
 
+# every must-fail edit begins with the wrong answer that it is, and its name has underscores.
+edits() {
+    local file
+    for file in crates/*/must-fail/*; do
+        if [[ $file =~ /[a-z0-9_]+\.edit$ && $(head -n 1 "$file") == "# "* ]]; then told yes; else told no "$file: its name, or no first line '# …'"; fi
+    done
+}
+
 # every heading of docs/DECISIONS.md is in the index at its top, and nothing else is.
 index() {
     local heading
@@ -111,6 +120,7 @@ theorems_with_files
 theorems_promised
 forms
 border
+edits
 index
 echo "$passed passed, $failed failed"
 [[ $failed -eq 0 ]]
