@@ -1,10 +1,10 @@
 -- Laws of `over`: nothing written, one byte, one run after another, and the turns of loops that copy or fill.
 use mathlib.Core.Path.{_≡_, refl, sym, ap, ap₂, _∙_}
 use mathlib.Core.List.{List, [], _∷_, _++_, append-assoc, append-nil}
-use Prim.Native.Nat.{ℕ, _+_, _-_, _≤_, _<_}
+use Prim.Native.Nat.{ℕ, suc, _+_, _-_, _≤_, _<_}
 use native.Mathlib.Omega.{arith}
 use native.Mathlib.Numerals.{add-one}
-use native.Mathlib.Nat.{add-assoc, add-zero}
+use native.Mathlib.Nat.{add-assoc, add-zero, add-suc}
 use lib.ListN.{length, take, drop, set, replicate, getD, replicate-append-replicate, length-append, length-drop, length-replicate, take-append-drop, drop-of-length-le}
 use lib.Seq.{drop-append-le, length-take-le, take-at, drop-at, drop-drop, set-split, take-suc, sets, sets-eq}
 use Rattle.runs.specs.Over.{over, Wrote}
@@ -17,10 +17,22 @@ pub over-one : (xs : List ℕ) (a b : ℕ) → a < length xs → set xs a b ≡ 
 unfolding over
 over-one xs a b h = rw (set-split, add-one)
 
--- stores one after the other
+-- stores one after the other, at a + k, a + (k + 1) and so on, as code writes their places
+abbrev pub storesFrom : List ℕ → ℕ → ℕ → List ℕ → List ℕ
+storesFrom xs a k [] = xs
+storesFrom xs a k (y ∷ ys) = storesFrom (set xs (a + k) y) a (suc k) ys
+
+stores-are : (ys xs : List ℕ) (a k : ℕ) → storesFrom xs a k ys ≡ sets xs (a + k) ys
+stores-are [] xs a k = refl
+stores-are (y ∷ ys) xs a k = stores-are ys (set xs (a + k) y) a (suc k) ∙ ap (λ (n : ℕ). sets (set xs (a + k) y) n ys) (add-suc a k)
+
 pub stores-over : (xs : List ℕ) (a : ℕ) (ys : List ℕ) → a + length ys ≤ length xs → sets xs a ys ≡ over xs a ys
 unfolding over
 stores-over xs a ys h = sets-eq ys xs a h ∙ append-assoc (take a xs) ys (drop (a + length ys) xs)
+
+-- the first of them at a
+pub stores-at : (xs : List ℕ) (a y : ℕ) (ys : List ℕ) → a + length (y ∷ ys) ≤ length xs → storesFrom (set xs a y) a 1 ys ≡ over xs a (y ∷ ys)
+stores-at xs a y ys h = stores-are ys (set xs a y) a 1 ∙ ap (λ (n : ℕ). sets (set xs a y) n ys) (add-one a) ∙ stores-over xs a (y ∷ ys) h
 
 pub length-over : (xs : List ℕ) (a : ℕ) (ys : List ℕ) → a + length ys ≤ length xs → length (over xs a ys) ≡ length xs
 unfolding over
