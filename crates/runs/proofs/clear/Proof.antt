@@ -21,12 +21,6 @@ loop-holds c =
     let z : a .at - a .at ≡ 0 = omega arith in
     (omega arith, omega arith, refl, sym (ap (λ (k : ℕ). over (a .out .now) (a .at) (replicate k 0)) z ∙ over-nil (a .out .now) (a .at)))
 
-slice-write-out : tie.Need-slice-write-out Inv-loop μ-loop
-slice-write-out c = search needs
-
-add-i : tie.Need-add-i Inv-loop μ-loop
-add-i c = search needs
-
 loop-less : tie.Need-loop-less Inv-loop μ-loop
 loop-less c = simp length-set (search needs)
 
@@ -58,8 +52,8 @@ clear-spec =
     Inv-loop
     μ-loop
     loop-holds
-    slice-write-out
-    add-i
+    (λ c. search needs)
+    (λ c. search needs)
     loop-less
     loop-again
     same-length
