@@ -42,6 +42,6 @@ laid-spec =
     (λ c κs. omega arith)
     (λ c. search needs)
     (λ c. search needs)
-    (λ c. again c)
+    again
     (λ c. search needs)
     (λ c. search needs))

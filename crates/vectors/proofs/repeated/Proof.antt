@@ -32,6 +32,6 @@ repeated-spec =
     (λ c κs. omega arith)
     (λ c. search needs)
     (λ c. search needs)
-    (λ c. again c)
+    again
     (λ c. search needs)
     (λ c. search needs))
