@@ -27,3 +27,6 @@ below-take b (suc n) (x ∷ xs) h (suc k) = below-take b n xs (λ i. h (suc i)) 
 
 pub below-drop : (b n : ℕ) (xs : List ℕ) → Below b xs → Below b (drop n xs)
 below-drop b n xs h k = subst (λ (x : ℕ). x < b) (sym (getD-drop n xs k 0)) (h (n + k))
+
+pub below-part : (b at n : ℕ) (xs : List ℕ) → Below b xs → Below b (take n (drop at xs))
+below-part b at n xs h = below-take b n (drop at xs) (below-drop b at xs h)

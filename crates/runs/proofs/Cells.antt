@@ -3,7 +3,7 @@ use mathlib.Core.Path.{_≡_, refl, sym, ap, _∙_}
 use mathlib.Core.List.{List, _++_}
 use mathlib.Core.Logic.{⊎-elim}
 use Prim.Native.Nat.{ℕ, zero, suc, _+_, _-_, _*_, _<_, _≤_}
-use native.Mathlib.Nat.{mul-zero, mul-suc, mul-le-mul-left}
+use native.Mathlib.Nat.{add-zero, mul-zero, mul-suc, mul-le-mul-left}
 use native.Mathlib.Omega.{arith}
 use lib.ListN.{length, getD, set, take, drop, length-set, List·getD-append}
 use lib.Seq.{getD-set-same, getD-set-other, getD-take, getD-drop, getD-append-add, length-take-le, ext-getD}
@@ -49,6 +49,10 @@ below m n h d = ⊎-elim (λ a. a) (λ a. absurd (d (omega arith))) (lt-or-ge m 
 -- what is read of a cell is decided by its numbers
 abbrev pub Local : {A : Type 0} → (List ℕ → ℕ → A) → ℕ → Type 0
 Local read w = (s t : List ℕ) (a b : ℕ) → ((k : ℕ) → k < w → getD s (a + k) 0 ≡ getD t (b + k) 0) → read s a ≡ read t b
+
+-- the first of the numbers
+pub local-first : (s t : List ℕ) (a b : ℕ) {w : ℕ} → ((k : ℕ) → k < w → getD s (a + k) 0 ≡ getD t (b + k) 0) → 0 < w → getD s a 0 ≡ getD t b 0
+local-first s t a b h p = ap (λ (i : ℕ). getD s i 0) (sym (add-zero a)) ∙ h 0 p ∙ ap (λ (i : ℕ). getD t i 0) (add-zero b)
 
 module _ {A : Type 0} (read : List ℕ → ℕ → A) (w : ℕ) where
   length-from : (k : ℕ) (s : List ℕ) (at : ℕ) → length (cellsFrom read w k s at) ≡ k
@@ -107,3 +111,18 @@ module _ {A : Type 0} (read : List ℕ → ℕ → A) (w : ℕ) where
         ∙ sym (ap (λ (m : ℕ). getD (set (cells read w k s) n (read ys 0)) m d) p ∙ getD-set-same (cells read w k s) n (read ys 0) d (omega arith)))
         (λ q. let p = eqb-false i n q in
         elsewhere i d (omega arith) p ∙ sym (getD-set-other (cells read w k s) n i (read ys 0) d p)))
+
+-- THINGS KEPT AS NUMBERS
+
+-- how a thing is kept in a cell of w numbers: what is read of the numbers of a thing that obeys the rule is the thing
+pub record Coded {A : Type 0} (read : List ℕ → ℕ → A) (numbers : A → List ℕ) (Rule : A → Type 0) (w : ℕ) : Type 0 where
+  pub near : Local read w
+  pub wide : (x : A) → length (numbers x) ≡ w
+  pub back : (x : A) → Rule x → read (numbers x) 0 ≡ x
+
+-- a store of a thing's numbers puts it into its cell, and no other changes
+pub cells-stored : {A : Type 0} {read : List ℕ → ℕ → A} {numbers : A → List ℕ} {Rule : A → Type 0} {w : ℕ} → Coded read numbers Rule w
+    → (k : ℕ) (s : List ℕ) → w * k ≤ length s → (n : ℕ) → n < k → (x : A) → Rule x → {r : List ℕ} → r ≡ over s (w * n) (numbers x)
+    → cells read w k r ≡ set (cells read w k s) n x
+cells-stored {read} {numbers} {w} c k s long n h x rule e =
+    ap (cells read w k) e ∙ cells-put read w (c .near) k s long n h (numbers x) (c .wide x) x ∙ ap (set (cells read w k s) n) (c .back x rule)

@@ -2,7 +2,7 @@
 use mathlib.Core.Path.{_≡_, refl, sym, ap, ap₂, _∙_, subst}
 use mathlib.Core.List.{List, [], _∷_, _++_}
 use Prim.Native.Nat.{ℕ, zero, suc, _+_, _-_, _*_, _/_, _%_, _^_, _<_, _≤_}
-use native.Mathlib.Nat.{mod-lt, mod-one, mod-eq-of-lt, mul-assoc, mul-comm, mul-one, add-assoc, add-comm, add-mul, add-zero, zero-add, suc-add, zero-mul, pow-zero, pow-suc, pow-le-pow-right, one-le-pow, lt-of-lt-of-le, zero-div, zero-mod, div-div-eq-div-mul, div-add-mod', add-mul-div-right, mul-add-mod-self-right, le-refl, not-suc-le-zero}
+use native.Mathlib.Nat.{mod-lt, mod-one, mod-eq-of-lt, mul-assoc, mul-comm, mul-one, mul-zero, mul-suc, add-assoc, add-comm, add-mul, add-zero, zero-add, suc-add, zero-mul, pow-zero, pow-suc, pow-le-pow-right, one-le-pow, lt-of-lt-of-le, zero-div, zero-mod, div-div-eq-div-mul, div-add-mod', add-mul-div-right, mul-add-mod-self-right, le-refl, not-suc-le-zero}
 use native.Mathlib.Numerals.{add-one}
 use native.Mathlib.Omega.{arith}
 use lib.Arith.{digits-lt, digits-div, mod-mul}
@@ -18,6 +18,11 @@ length-digits b (suc k) n = ap suc (length-digits b k n)
 
 pub power-pos : (b k : ℕ) → 0 < b → 0 < b ^ k
 power-pos b k h = one-le-pow k b h
+
+-- a power of a power of two
+pub power-power : (w k : ℕ) → (2 ^ w) ^ k ≡ 2 ^ (w * k)
+power-power w zero = pow-zero (2 ^ w) ∙ sym (ap (λ (x : ℕ). 2 ^ x) (mul-zero w) ∙ pow-zero 2)
+power-power w (suc k) = pow-suc (2 ^ w) k ∙ ap (λ (x : ℕ). x * 2 ^ w) (power-power w k) ∙ sym (ap (λ (x : ℕ). 2 ^ x) (mul-suc w k) ∙ pow-add 2 (w * k) w)
 
 pub digits-below : (b k n : ℕ) → 0 < b → Below b (digits b k n)
 unfolding digits

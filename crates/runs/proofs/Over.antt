@@ -1,12 +1,12 @@
--- Laws of `over`: nothing written, one byte, one run after another, and the turns of loops that copy or fill.
+-- Laws of `over` and of the writer's promise: nothing written, one byte, stores one after the other, and one run after another.
 use mathlib.Core.Path.{_≡_, refl, sym, ap, ap₂, _∙_}
-use mathlib.Core.List.{List, [], _∷_, _++_, append-assoc, append-nil}
-use Prim.Native.Nat.{ℕ, _+_, _-_, _≤_, _<_}
+use mathlib.Core.List.{List, [], _∷_, _++_, append-assoc}
+use Prim.Native.Nat.{ℕ, suc, _+_, _≤_, _<_}
 use native.Mathlib.Omega.{arith}
 use native.Mathlib.Numerals.{add-one}
-use native.Mathlib.Nat.{add-assoc, add-zero}
-use lib.ListN.{length, take, drop, set, replicate, getD, replicate-append-replicate, length-append, length-drop, length-replicate, take-append-drop, drop-of-length-le}
-use lib.Seq.{drop-append-le, length-take-le, take-at, drop-at, drop-drop, set-split, take-suc, sets, sets-eq}
+use native.Mathlib.Nat.{add-assoc, add-zero, add-suc}
+use lib.ListN.{length, take, drop, set, length-append, length-drop, take-append-drop}
+use lib.Seq.{length-take-le, take-at, drop-at, drop-drop, set-split, sets, sets-eq}
 use Rattle.runs.specs.Over.{over, Wrote}
 
 pub over-nil : (xs : List ℕ) (a : ℕ) → over xs a [] ≡ xs
@@ -17,10 +17,22 @@ pub over-one : (xs : List ℕ) (a b : ℕ) → a < length xs → set xs a b ≡ 
 unfolding over
 over-one xs a b h = rw (set-split, add-one)
 
--- stores one after the other
+-- stores one after the other, at a + k, a + (k + 1) and so on, as code writes their places
+abbrev pub storesFrom : List ℕ → ℕ → ℕ → List ℕ → List ℕ
+storesFrom xs a k [] = xs
+storesFrom xs a k (y ∷ ys) = storesFrom (set xs (a + k) y) a (suc k) ys
+
+stores-are : (ys xs : List ℕ) (a k : ℕ) → storesFrom xs a k ys ≡ sets xs (a + k) ys
+stores-are [] xs a k = refl
+stores-are (y ∷ ys) xs a k = stores-are ys (set xs (a + k) y) a (suc k) ∙ ap (λ (n : ℕ). sets (set xs (a + k) y) n ys) (add-suc a k)
+
 pub stores-over : (xs : List ℕ) (a : ℕ) (ys : List ℕ) → a + length ys ≤ length xs → sets xs a ys ≡ over xs a ys
 unfolding over
 stores-over xs a ys h = sets-eq ys xs a h ∙ append-assoc (take a xs) ys (drop (a + length ys) xs)
+
+-- the first of them at a
+pub stores-at : (xs : List ℕ) (a y : ℕ) (ys : List ℕ) → a + length (y ∷ ys) ≤ length xs → storesFrom (set xs a y) a 1 ys ≡ over xs a (y ∷ ys)
+stores-at xs a y ys h = stores-are ys (set xs a y) a 1 ∙ ap (λ (n : ℕ). sets (set xs a y) n ys) (add-one a) ∙ stores-over xs a (y ∷ ys) h
 
 pub length-over : (xs : List ℕ) (a : ℕ) (ys : List ℕ) → a + length ys ≤ length xs → length (over xs a ys) ≡ length xs
 unfolding over
@@ -51,46 +63,6 @@ over-over xs a ys zs h =
     ∙ ap (λ (n : ℕ). drop n xs) (add-assoc a (length ys) (length zs) ∙ ap (λ (n : ℕ). a + n) (sym (length-append ys zs))) in
     ap₂ (λ (f r : List ℕ). f ++ (zs ++ r)) (take-over xs a ys h) rest ∙ simp append-assoc
 
--- a run that is as long as the list
-pub over-all : (xs ys : List ℕ) → length ys ≡ length xs → over xs 0 ys ≡ ys
-unfolding over
-over-all xs ys h = ap (λ (l : List ℕ). ys ++ l) (drop-of-length-le xs {i = 0 + length ys} (omega arith)) ∙ append-nil ys
-
--- a turn of a loop that copies
-pub over-copy : (xs : List ℕ) (a : ℕ) (s : List ℕ) (i : ℕ) → a + i < length xs → i < length s
-    → set (over xs a (take i s)) (a + i) (getD s i 0) ≡ over xs a (take (i + 1) s)
-over-copy xs a s i h hi =
-    let e : length (take i s) ≡ i = length-take-le i s (omega arith) in
-    let l : length (over xs a (take i s)) ≡ length xs = length-over xs a (take i s) (omega arith) in
-    over-one (over xs a (take i s)) (a + i) (getD s i 0) (omega arith)
-    ∙ ap (λ (k : ℕ). over (over xs a (take i s)) (a + k) (getD s i 0 ∷ [])) (sym e)
-    ∙ over-over xs a (take i s) (getD s i 0 ∷ []) (omega arith)
-    ∙ ap (over xs a) (sym (ap (λ (k : ℕ). take k s) (add-one i) ∙ take-suc s i 0 hi))
-
--- a turn of a loop that repeats b
-pub over-fill : (xs : List ℕ) (a b k : ℕ) → a + k < length xs
-    → set (over xs a (replicate k b)) (a + k) b ≡ over xs a (replicate (k + 1) b)
-over-fill xs a b k h =
-    let e : length (replicate k b) ≡ k = length-replicate k b in
-    let l : length (over xs a (replicate k b)) ≡ length xs = length-over xs a (replicate k b) (omega arith) in
-    over-one (over xs a (replicate k b)) (a + k) b (omega arith)
-    ∙ ap (λ (n : ℕ). over (over xs a (replicate k b)) (a + n) (b ∷ [])) (sym e)
-    ∙ over-over xs a (replicate k b) (b ∷ []) (omega arith)
-    ∙ ap (over xs a) (replicate-append-replicate k 1 b)
-
--- a run at the start of a part that was lent, seen from the whole
-pub over-part : (xs : List ℕ) (a k : ℕ) (ys : List ℕ) → a + k ≤ length xs → length ys ≤ k
-    → take a xs ++ (over (take k (drop a xs)) 0 ys ++ drop k (drop a xs)) ≡ over xs a ys
-unfolding over
-over-part xs a k ys h hy =
-    let d = drop a xs in
-    let l : length (take k d) ≡ k = length-take-le k d (simp length-drop (omega arith)) in
-    let z : 0 + length ys ≡ length ys = omega arith in
-    let e : drop (0 + length ys) (take k d) ++ drop k d ≡ drop (a + length ys) xs =
-    sym (drop-append-le (0 + length ys) (take k d) (drop k d) (omega arith))
-    ∙ ap (drop (0 + length ys)) (take-append-drop k d) ∙ ap (λ (n : ℕ). drop n d) z ∙ drop-drop (length ys) a xs in
-    ap (λ (r : List ℕ). take a xs ++ r) (append-assoc ys (drop (0 + length ys) (take k d)) (drop k d) ∙ ap (λ (r : List ℕ). ys ++ r) e)
-
 -- two outcomes that meet a writer's promise coincide
 pub wrote-one : {xs ys : List ℕ} {at a b : ℕ} {us vs : List ℕ} → Wrote xs at ys a us → Wrote xs at ys b vs → (a ≡ b) × (us ≡ vs)
 wrote-one p q = (p .next ∙ sym (q .next), p .buffer ∙ sym (q .buffer))
@@ -118,3 +90,7 @@ wrote-as {xs} {us} {ys} {zs} {at} {n} e p = record
 
 pub wrote-length : {xs us ys : List ℕ} {at n : ℕ} → at + length ys ≤ length xs → Wrote xs at ys n us → length us ≡ length xs
 wrote-length {xs} {us} {ys} {at} {n} h p = ap length (p .buffer) ∙ length-over xs at ys h
+
+-- the place after the run lies in the buffer, which is as long as before
+pub wrote-inside : {xs us ys : List ℕ} {at n : ℕ} → at + length ys ≤ length xs → Wrote xs at ys n us → (n ≤ length us) × (length us ≡ length xs)
+wrote-inside {xs} {us} {ys} {at} {n} h p = let l = wrote-length h p in (omega (arith, p .next), l)

@@ -6,7 +6,7 @@ use mathlib.Core.List.{List, [], _∷_, _++_}
 use native.Mathlib.Omega.{arith}
 use native.Mathlib.Numerals.{add-one}
 use lib.ListN.{length, getD, take, drop, length-append, length-drop}
-use lib.Seq.{getD-drop, take-take, drop-drop, drop-at, drop-cons}
+use lib.Seq.{getD-drop, take-take, take-add, drop-drop, drop-at, drop-cons, length-take-le}
 
 pub stands-past : {A : Type 0} (s : List A) (at : ℕ) (ys zs : List A) → drop at s ≡ ys ++ zs → drop (at + length ys) s ≡ zs
 stands-past s at ys zs e = sym (drop-drop (length ys) at s) ∙ ap (drop (length ys)) e ∙ drop-at ys zs (length ys) refl
@@ -35,3 +35,10 @@ stands-within zero w m l h = take-take w m l (omega arith)
 stands-within (suc o) w zero l h = absurd (let z : suc o + w ≤ 0 = h in omega arith)
 stands-within (suc o) w (suc m) [] h = refl
 stands-within (suc o) w (suc m) (x ∷ xs) h = stands-within o w m xs (omega arith)
+
+-- the n elements from `at` on: how many they are, and the m before them
+pub part-length : {A : Type 0} (s : List A) (at n : ℕ) → at + n ≤ length s → length (take n (drop at s)) ≡ n
+part-length s at n h = length-take-le n (drop at s) (simp length-drop (omega arith))
+
+pub part-append : {A : Type 0} (s : List A) (at m n : ℕ) → take (m + n) (drop at s) ≡ take m (drop at s) ++ take n (drop (at + m) s)
+part-append s at m n = take-add m n (drop at s) ∙ ap (λ (l : List _). take m (drop at s) ++ take n l) (drop-drop m at s)

@@ -5,343 +5,6 @@ use libc::STDOUT_FILENO;
 use numbers::LengthRead;
 use numbers::TagRead;
 
-// Sections that FFmpeg's MPEG-2 transport stream muxer sends: the association of program 1 with PID 1000h, its map with one H.264 and
-// one AAC stream, and the service description of "Service01" by "FFmpeg". Each ends with its CRC_32.
-const PAT: [u8; 16] = [
-    0x00,
-    0xB0,
-    0x0D,
-    0x00,
-    0x01,
-    0xC1,
-    0x00,
-    0x00,
-    0x00,
-    0x01,
-    0xF0,
-    0x00,
-    0x2A,
-    0xB1,
-    0x04,
-    0xB2,
-];
-
-const PMT: [u8; 26] = [
-    0x02,
-    0xB0,
-    0x17,
-    0x00,
-    0x01,
-    0xC1,
-    0x00,
-    0x00,
-    0xE1,
-    0x00,
-    0xF0,
-    0x00,
-    0x1B,
-    0xE1,
-    0x00,
-    0xF0,
-    0x00,
-    0x0F,
-    0xE1,
-    0x01,
-    0xF0,
-    0x00,
-    0x2F,
-    0x44,
-    0xB9,
-    0x9B,
-];
-
-const SDT: [u8; 40] = [
-    0x42,
-    0xF0,
-    0x25,
-    0x00,
-    0x01,
-    0xC1,
-    0x00,
-    0x00,
-    0xFF,
-    0x01,
-    0xFF,
-    0x00,
-    0x01,
-    0xFC,
-    0x80,
-    0x14,
-    0x48,
-    0x12,
-    0x01,
-    0x06,
-    0x46,
-    0x46,
-    0x6D,
-    0x70,
-    0x65,
-    0x67,
-    0x09,
-    0x53,
-    0x65,
-    0x72,
-    0x76,
-    0x69,
-    0x63,
-    0x65,
-    0x30,
-    0x31,
-    0x77,
-    0x7C,
-    0x43,
-    0xCA,
-];
-
-// Sample messages of ANSI/SCTE 35, section 14: placement opportunity start, splice insert, placement opportunity end, program start and end.
-// Each ends with its CRC_32.
-const SPLICE_START: [u8; 55] = [
-    0xFC,
-    0x30,
-    0x34,
-    0x00,
-    0x00,
-    0x00,
-    0x00,
-    0x00,
-    0x00,
-    0xFF,
-    0xFF,
-    0xF0,
-    0x05,
-    0x06,
-    0xFE,
-    0x72,
-    0xBD,
-    0x00,
-    0x50,
-    0x00,
-    0x1E,
-    0x02,
-    0x1C,
-    0x43,
-    0x55,
-    0x45,
-    0x49,
-    0x48,
-    0x00,
-    0x00,
-    0x8E,
-    0x7F,
-    0xCF,
-    0x00,
-    0x01,
-    0xA5,
-    0x99,
-    0xB0,
-    0x08,
-    0x08,
-    0x00,
-    0x00,
-    0x00,
-    0x00,
-    0x2C,
-    0xA0,
-    0xA1,
-    0x8A,
-    0x34,
-    0x02,
-    0x00,
-    0x9A,
-    0xC9,
-    0xD1,
-    0x7E,
-];
-
-const SPLICE_INSERT: [u8; 50] = [
-    0xFC,
-    0x30,
-    0x2F,
-    0x00,
-    0x00,
-    0x00,
-    0x00,
-    0x00,
-    0x00,
-    0xFF,
-    0xFF,
-    0xF0,
-    0x14,
-    0x05,
-    0x48,
-    0x00,
-    0x00,
-    0x8F,
-    0x7F,
-    0xEF,
-    0xFE,
-    0x73,
-    0x69,
-    0xC0,
-    0x2E,
-    0xFE,
-    0x00,
-    0x52,
-    0xCC,
-    0xF5,
-    0x00,
-    0x00,
-    0x00,
-    0x00,
-    0x00,
-    0x0A,
-    0x00,
-    0x08,
-    0x43,
-    0x55,
-    0x45,
-    0x49,
-    0x00,
-    0x00,
-    0x01,
-    0x35,
-    0x62,
-    0xDB,
-    0xA3,
-    0x0A,
-];
-
-const SPLICE_END: [u8; 50] = [
-    0xFC,
-    0x30,
-    0x2F,
-    0x00,
-    0x00,
-    0x00,
-    0x00,
-    0x00,
-    0x00,
-    0xFF,
-    0xFF,
-    0xF0,
-    0x05,
-    0x06,
-    0xFE,
-    0x74,
-    0x62,
-    0x90,
-    0xA0,
-    0x00,
-    0x19,
-    0x02,
-    0x17,
-    0x43,
-    0x55,
-    0x45,
-    0x49,
-    0x48,
-    0x00,
-    0x00,
-    0x8E,
-    0x7F,
-    0x9F,
-    0x08,
-    0x08,
-    0x00,
-    0x00,
-    0x00,
-    0x00,
-    0x2C,
-    0xA0,
-    0xA1,
-    0x8A,
-    0x35,
-    0x02,
-    0x00,
-    0xA9,
-    0xCC,
-    0x67,
-    0x58,
-];
-
-const SPLICE_PROGRAM: [u8; 75] = [
-    0xFC,
-    0x30,
-    0x48,
-    0x00,
-    0x00,
-    0x00,
-    0x00,
-    0x00,
-    0x00,
-    0xFF,
-    0xFF,
-    0xF0,
-    0x05,
-    0x06,
-    0xFE,
-    0x7A,
-    0x4D,
-    0x88,
-    0xB6,
-    0x00,
-    0x32,
-    0x02,
-    0x17,
-    0x43,
-    0x55,
-    0x45,
-    0x49,
-    0x48,
-    0x00,
-    0x00,
-    0x18,
-    0x7F,
-    0x9F,
-    0x08,
-    0x08,
-    0x00,
-    0x00,
-    0x00,
-    0x00,
-    0x2C,
-    0xCB,
-    0xC3,
-    0x44,
-    0x11,
-    0x00,
-    0x00,
-    0x02,
-    0x17,
-    0x43,
-    0x55,
-    0x45,
-    0x49,
-    0x48,
-    0x00,
-    0x00,
-    0x19,
-    0x7F,
-    0x9F,
-    0x08,
-    0x08,
-    0x00,
-    0x00,
-    0x00,
-    0x00,
-    0x2C,
-    0xA4,
-    0xDB,
-    0xA0,
-    0x10,
-    0x00,
-    0x00,
-    0x99,
-    0x72,
-    0xE3,
-    0x43,
-];
-
 fn text(s: &[u8]) {
     io::write_all(STDOUT_FILENO, s);
 }
@@ -379,17 +42,37 @@ fn first(s: &[u8], n: usize) {
     }
 }
 
+// A number and how it is written: the first `end` bytes of `out`.
+fn written(name: &[u8], n: u32, out: &[u8], end: usize) {
+    text(name);
+    decimal(wide(n));
+    text(b" is");
+    first(out, end);
+    text(b",");
+}
+
+// What is read where these bytes stand.
+fn standing(name: &[u8], s: &[u8]) {
+    text(name);
+    bytes(s);
+    text(b":");
+}
+
+// A number that was read, and the place after it.
+fn read(n: u64, next: usize) {
+    text(b" read ");
+    decimal(n);
+    text(b" in ");
+    decimal(far(next));
+}
+
 // The tag `t`: as it is written, and as it is read back with other bytes after it.
 fn tag(t: u32)
     requires { ⌜ t < 128 ^ 4 ⌝ }
 {
     let mut out = [0xEEu8; 8];
     let end = put_tag(&mut out, t);
-    text(b"tag ");
-    decimal(wide(t));
-    text(b" is");
-    first(&out, end);
-    text(b",");
+    written(b"tag ", t, &out, end);
     tag_at(&out);
 }
 
@@ -405,12 +88,7 @@ fn put_tag(out: &mut [u8], t: u32) -> usize
 // What reading a tag at the start of `s` finds.
 fn tag_at(s: &[u8]) {
     match numbers::read_tag(s, 0) {
-        TagRead::Tag { tag, next } => {
-            text(b" read ");
-            decimal(wide(tag));
-            text(b" in ");
-            decimal(far(next));
-        }
+        TagRead::Tag { tag, next } => read(wide(tag), next),
         TagRead::Bad => text(b" bad"),
         TagRead::Cut => text(b" cut"),
     }
@@ -418,9 +96,7 @@ fn tag_at(s: &[u8]) {
 }
 
 fn tag_bytes(s: &[u8]) {
-    text(b"tag at");
-    bytes(s);
-    text(b":");
+    standing(b"tag at", s);
     tag_at(s);
 }
 
@@ -428,11 +104,7 @@ fn tag_bytes(s: &[u8]) {
 fn len(n: u32) {
     let mut out = [0xEEu8; 8];
     let end = put_length(&mut out, n);
-    text(b"length ");
-    decimal(wide(n));
-    text(b" is");
-    first(&out, end);
-    text(b",");
+    written(b"length ", n, &out, end);
     len_at(&out);
 }
 
@@ -445,12 +117,7 @@ fn put_length(out: &mut [u8], n: u32) -> usize {
 
 fn len_at(s: &[u8]) {
     match numbers::read_length(s, 0) {
-        LengthRead::Length { len, next } => {
-            text(b" read ");
-            decimal(len);
-            text(b" in ");
-            decimal(far(next));
-        }
+        LengthRead::Length { len, next } => read(len, next),
         LengthRead::Forbidden => text(b" forbidden"),
         LengthRead::Cut => text(b" cut"),
     }
@@ -458,18 +125,20 @@ fn len_at(s: &[u8]) {
 }
 
 fn len_bytes(s: &[u8]) {
-    text(b"length at");
-    bytes(s);
-    text(b":");
+    standing(b"length at", s);
     len_at(s);
+}
+
+fn crc_line(s: &[u8]) {
+    text(b": ");
+    io::print_hex(STDOUT_FILENO, wide(crc::crc(s)), 8);
+    text(b"\n");
 }
 
 fn crc_of(name: &[u8], s: &[u8]) {
     text(b"crc of ");
     text(name);
-    text(b": ");
-    io::print_hex(STDOUT_FILENO, wide(crc::crc(s)), 8);
-    text(b"\n");
+    crc_line(s);
 }
 
 // The field of `w` bits from bit `at` on.
@@ -495,9 +164,7 @@ fn section(name: &[u8], s: &[u8])
     crc_of(name, &s[0..end]);
     text(b"  and with its last four bytes");
     bytes(&s[end..]);
-    text(b": ");
-    io::print_hex(STDOUT_FILENO, wide(crc::crc(s)), 8);
-    text(b"\n");
+    crc_line(s);
 }
 
 // Whether a 16-bit number read as two's complement is `v`, which is written `name`.
@@ -552,18 +219,49 @@ fn signs() {
     sign(65535, -1, b"-1");
 }
 
-// The check value of the catalogue of parametrised CRC algorithms (CRC-32/MPEG-2), and sections of which each gives 0 with its own CRC.
+// The check value of the catalogue of parametrised CRC algorithms (CRC-32/MPEG-2).
 fn crcs() {
     crc_of(b"nothing", b"");
     crc_of(b"123456789", b"123456789");
     crc_of(b"123456789 and its CRC", b"123456789\x03\x76\xE6\xE7");
-    section(b"PAT", &PAT);
-    section(b"PMT", &PMT);
-    section(b"SDT", &SDT);
-    section(b"placement opportunity start", &SPLICE_START);
-    section(b"splice insert", &SPLICE_INSERT);
-    section(b"placement opportunity end", &SPLICE_END);
-    section(b"program start and end", &SPLICE_PROGRAM);
+}
+
+// Sections that FFmpeg's MPEG-2 transport stream muxer sends: the association of program 1 with PID 1000h, its map with one H.264 and
+// one AAC stream, and the service description of "Service01" by "FFmpeg". Each ends with its CRC_32.
+fn sections() {
+    section(
+        b"PAT",
+        b"\x00\xB0\x0D\x00\x01\xC1\x00\x00\x00\x01\xF0\x00\x2A\xB1\x04\xB2",
+    );
+    section(
+        b"PMT",
+        b"\x02\xB0\x17\x00\x01\xC1\x00\x00\xE1\x00\xF0\x00\x1B\xE1\x00\xF0\x00\x0F\xE1\x01\xF0\x00\x2F\x44\xB9\x9B",
+    );
+    section(
+        b"SDT",
+        b"\x42\xF0\x25\x00\x01\xC1\x00\x00\xFF\x01\xFF\x00\x01\xFC\x80\x14\x48\x12\x01\x06\x46\x46\x6D\x70\x65\x67\x09\x53\x65\x72\x76\x69\x63\x65\x30\x31\x77\x7C\x43\xCA",
+    );
+}
+
+// Sample messages of ANSI/SCTE 35, section 14: placement opportunity start, splice insert, placement opportunity end, program start and end.
+// Each ends with its CRC_32.
+fn messages() {
+    section(
+        b"placement opportunity start",
+        b"\xFC\x30\x34\x00\x00\x00\x00\x00\x00\xFF\xFF\xF0\x05\x06\xFE\x72\xBD\x00\x50\x00\x1E\x02\x1C\x43\x55\x45\x49\x48\x00\x00\x8E\x7F\xCF\x00\x01\xA5\x99\xB0\x08\x08\x00\x00\x00\x00\x2C\xA0\xA1\x8A\x34\x02\x00\x9A\xC9\xD1\x7E",
+    );
+    section(
+        b"splice insert",
+        b"\xFC\x30\x2F\x00\x00\x00\x00\x00\x00\xFF\xFF\xF0\x14\x05\x48\x00\x00\x8F\x7F\xEF\xFE\x73\x69\xC0\x2E\xFE\x00\x52\xCC\xF5\x00\x00\x00\x00\x00\x0A\x00\x08\x43\x55\x45\x49\x00\x00\x01\x35\x62\xDB\xA3\x0A",
+    );
+    section(
+        b"placement opportunity end",
+        b"\xFC\x30\x2F\x00\x00\x00\x00\x00\x00\xFF\xFF\xF0\x05\x06\xFE\x74\x62\x90\xA0\x00\x19\x02\x17\x43\x55\x45\x49\x48\x00\x00\x8E\x7F\x9F\x08\x08\x00\x00\x00\x00\x2C\xA0\xA1\x8A\x35\x02\x00\xA9\xCC\x67\x58",
+    );
+    section(
+        b"program start and end",
+        b"\xFC\x30\x48\x00\x00\x00\x00\x00\x00\xFF\xFF\xF0\x05\x06\xFE\x7A\x4D\x88\xB6\x00\x32\x02\x17\x43\x55\x45\x49\x48\x00\x00\x18\x7F\x9F\x08\x08\x00\x00\x00\x00\x2C\xCB\xC3\x44\x11\x00\x00\x02\x17\x43\x55\x45\x49\x48\x00\x00\x19\x7F\x9F\x08\x08\x00\x00\x00\x00\x2C\xA4\xDB\xA0\x10\x00\x00\x99\x72\xE3\x43",
+    );
 }
 
 // Fields across the borders of bytes, of every kind of width that a PMD value has.
@@ -583,5 +281,7 @@ fn main() {
     lengths();
     signs();
     crcs();
+    sections();
+    messages();
     fields();
 }

@@ -1,16 +1,16 @@
--- `runs::clear` meets its contract. The loop's invariant: what was passed since `at` is 0, and nothing else has changed.
+-- `runs::clear` meets its contract. The loop keeps what is left to write: as many 0 as places are left, written now, give the whole.
 use borrow.Author.Needs.{needs}
-use mathlib.Core.Path.{_≡_, refl, sym, ap, _∙_}
-use Prim.Native.Nat.{ℕ, _+_, _-_, _≤_}
+use mathlib.Core.Path.{_≡_, ap}
+use Prim.Native.Nat.{ℕ, suc, _+_, _-_, _≤_}
 use native.Mathlib.Omega.{arith}
-use lib.ListN.{length, set, replicate, length-set}
-use Rattle.runs.specs.Over.{over}
-use Rattle.runs.proofs.Over.{over-nil, over-fill}
+use mathlib.Core.List.{List}
+use lib.ListN.{length, set, replicate, length-set, length-replicate}
+use Rattle.runs.proofs.Writing.{Writing, writing-begins, writing-as, writing-byte, writing-done}
 use Rattle.runs.proofs.clear.Statement.{statement}
 use Rattle.runs.proofs.clear.Tie as tie
 
 abbrev Inv-loop : tie.InvT-loop
-Inv-loop out₀ at i₀ out i = (at ≤ i) × (i ≤ length out) × (length out ≡ length out₀) × (out ≡ over out₀ at (replicate (i - at) 0))
+Inv-loop out₀ at i₀ out i = (i ≤ length out) × Writing out₀ at (replicate (length out₀ - at) 0) out i (replicate (length out - i) 0)
 
 abbrev μ-loop : tie.MeasureT-loop
 μ-loop out₀ at i₀ out i = length out - i
@@ -18,38 +18,28 @@ abbrev μ-loop : tie.MeasureT-loop
 loop-holds : tie.Need-loop-holds Inv-loop μ-loop
 loop-holds c =
     let a = c .args in
-    let z : a .at - a .at ≡ 0 = omega arith in
-    (omega arith, omega arith, refl, sym (ap (λ (k : ℕ). over (a .out .now) (a .at) (replicate k 0)) z ∙ over-nil (a .out .now) (a .at)))
-
-slice-write-out : tie.Need-slice-write-out Inv-loop μ-loop
-slice-write-out c = search needs
-
-add-i : tie.Need-add-i Inv-loop μ-loop
-add-i c = search needs
+    let k = length (a .out .now) - a .at in
+    let zeros : List ℕ = replicate k 0 in
+    let e : length zeros ≡ k = length-replicate k 0 in
+    (omega arith, writing-begins (a .out .now) (a .at) zeros (omega arith))
 
 loop-less : tie.Need-loop-less Inv-loop μ-loop
 loop-less c = simp length-set (search needs)
 
 loop-again : tie.Need-loop-again Inv-loop μ-loop
 loop-again c =
-    let a = c .before .before .args in
     let l = c .before .loop in
-    let k : l .i ≡ a .at + (l .i - a .at) = omega arith in
-    let m : l .i + 1 - a .at ≡ l .i - a .at + 1 = omega arith in
-    let e : set (l .out) (l .i) 0 ≡ over (a .out .now) (a .at) (replicate (l .i + 1 - a .at) 0) =
-    ap (λ (x : ℕ). set (l .out) x 0) k ∙ rw (l .inv .3) (over-fill (a .out .now) (a .at) 0 (l .i - a .at) (omega arith))
-    ∙ ap (λ (x : ℕ). over (a .out .now) (a .at) (replicate x 0)) (sym m) in
-    (omega arith, simp length-set (search needs), simp length-set (search needs), e)
+    let e : length (l .out) - l .i ≡ suc (length (set (l .out) (l .i) 0) - (l .i + 1)) = simp length-set (omega arith) in
+    (simp length-set (search needs), writing-byte 0 _ (writing-as (ap (λ (k : ℕ). replicate k 0) e) (l .inv .1)))
 
 same-length : tie.Need-same-length Inv-loop μ-loop
-same-length c = c .before .loop .inv .2
+same-length c = c .before .loop .inv .1 .same
 
 returns : tie.Need-returns Inv-loop μ-loop
 returns c =
-    let a = c .before .before .args in
     let l = c .before .loop in
-    let e : l .i - a .at ≡ length (a .out .now) - a .at = omega arith in
-    l .inv .3 ∙ ap (λ (x : ℕ). over (a .out .now) (a .at) (replicate x 0)) e
+    let e : length (l .out) - l .i ≡ 0 = omega arith in
+    writing-done (writing-as (ap (λ (k : ℕ). replicate k 0) e) (l .inv .1)) .buffer
 
 pub clear-spec : {M : Type 1} → statement M
 clear-spec =
@@ -58,8 +48,8 @@ clear-spec =
     Inv-loop
     μ-loop
     loop-holds
-    slice-write-out
-    add-i
+    (λ c. search needs)
+    (λ c. search needs)
     loop-less
     loop-again
     same-length

@@ -1,58 +1,37 @@
--- `runs::copy` meets its contract. The loop's invariant: the first i bytes are copied, and nothing else has changed.
+-- `runs::copy` meets its contract. The loop keeps what is left to write: the bytes from i on, written now, give the whole.
 use borrow.Author.Needs.{needs}
-use mathlib.Core.Path.{_≡_, refl, sym, ap, _∙_}
-use Prim.Native.Nat.{ℕ, _-_, _≤_}
+use Prim.Native.Nat.{_+_, _-_, _≤_}
+use native.Mathlib.Nat.{add-zero, add-assoc}
 use native.Mathlib.Omega.{arith}
-use lib.ListN.{length, take, length-set}
-use lib.Seq.{take-length}
-use Rattle.runs.specs.Over.{over}
-use Rattle.runs.proofs.Over.{over-nil, over-copy}
+use lib.ListN.{length, drop, drop-of-length-le}
+use Rattle.runs.proofs.Stands.{here}
+use Rattle.runs.proofs.Writing.{Writing, writing-begins, writing-as, writing-byte, writing-done}
 use Rattle.runs.proofs.copy.Statement.{statement}
 use Rattle.runs.proofs.copy.Tie as tie
 
 abbrev Inv-loop : tie.InvT-loop
-Inv-loop out₀ at src i₀ out i = (i ≤ length src) × (length out ≡ length out₀) × (out ≡ over out₀ at (take i src))
+Inv-loop out₀ at src i₀ out i = (i ≤ length src) × Writing out₀ at src out (at + i) (drop i src)
 
 abbrev μ-loop : tie.MeasureT-loop
 μ-loop out₀ at src i₀ out i = length src - i
 
 loop-holds : tie.Need-loop-holds Inv-loop μ-loop
-loop-holds c = (search needs, refl, sym (over-nil _ _))
-
-shared-slice-read-out : tie.Need-shared-slice-read-out Inv-loop μ-loop
-shared-slice-read-out c = search needs
-
-add-out : tie.Need-add-out Inv-loop μ-loop
-add-out c = omega arith
-
-slice-write-out : tie.Need-slice-write-out Inv-loop μ-loop
-slice-write-out c = omega arith
-
-add-i : tie.Need-add-i Inv-loop μ-loop
-add-i c = omega arith
-
-loop-less : tie.Need-loop-less Inv-loop μ-loop
-loop-less c = omega arith
+loop-holds c = let a = c .args in (search needs, rw (add-zero (a .at)) (writing-begins (a .out .now) (a .at) (a .src .now) (c .pre)))
 
 loop-again : tie.Need-loop-again Inv-loop μ-loop
 loop-again c =
-    let t = c .before .before .before .args in
-    let i = c .before .before .loop .i in
-    let e = c .before .before .loop .inv .2 in
-    (omega arith, simp length-set (search needs), rw e (over-copy (t .out .now) (t .at) (t .src .now) i (omega arith) (omega arith)))
-
-add-result : tie.Need-add-result Inv-loop μ-loop
-add-result c = omega arith
+    let a = c .before .before .before .args in
+    let l = c .before .before .loop in
+    (omega arith, rw (← add-assoc (a .at) (l .i) 1) (writing-byte _ _ (writing-as (here (a .src .now) (l .i) (omega arith)) (l .inv .1))))
 
 same-length : tie.Need-same-length Inv-loop μ-loop
-same-length c = c .before .loop .inv .1
+same-length c = c .before .loop .inv .1 .same
 
 returns : tie.Need-returns Inv-loop μ-loop
 returns c =
-    let t = c .before .before .args in
-    let i = c .before .loop .i in
-    let e : i ≡ length (t .src .now) = omega arith in
-    record { next = omega arith; buffer = c .before .loop .inv .2 ∙ ap (over (t .out .now) (t .at)) (ap (λ (k : ℕ). take k (t .src .now)) e ∙ take-length (t .src .now)) }
+    let l = c .before .loop in
+    let h : length (c .before .before .args .src .now) ≤ l .i = omega arith in
+    writing-done (writing-as (drop-of-length-le _ h) (l .inv .1))
 
 pub copy-spec : {M : Type 1} → statement M
 copy-spec =
@@ -61,12 +40,12 @@ copy-spec =
     Inv-loop
     μ-loop
     loop-holds
-    shared-slice-read-out
-    add-out
-    slice-write-out
-    add-i
-    loop-less
+    (λ c. search needs)
+    (λ c. omega arith)
+    (λ c. omega arith)
+    (λ c. omega arith)
+    (λ c. omega arith)
     loop-again
-    add-result
+    (λ c. omega arith)
     same-length
     returns)

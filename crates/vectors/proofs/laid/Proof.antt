@@ -8,7 +8,7 @@ use lib.ListN.{length}
 use Rattle.runs.specs.Digits.{digits}
 use Rattle.runs.proofs.Digits.{length-digits}
 use Rattle.runs.specs.Over.{Wrote}
-use Rattle.runs.proofs.Over.{wrote-length}
+use Rattle.runs.proofs.Over.{wrote-inside}
 use Rattle.vectors.proofs.laid.Statement.{statement}
 use Rattle.vectors.proofs.laid.Tie as tie
 
@@ -19,15 +19,12 @@ abbrev μ-loop : tie.MeasureT-loop
 μ-loop numbers out₀ i₀ at₀ out i at = length numbers - i
 
 -- a number of four bytes was written
-four : (v : ℕ) {xs us : List ℕ} {at n : ℕ} → Wrote xs at (digits 256 4 v) n us → at + 4 ≤ length xs → (n ≤ length us) × (length us ≡ length xs)
-four v w h =
-    let k = length-digits 256 4 v in
-    let same = wrote-length (omega (arith, k)) w in
-    (omega (arith, w .next, same, k), same)
+four : (v : ℕ) {xs us : List ℕ} {at n : ℕ} → at + 4 ≤ length xs → Wrote xs at (digits 256 4 v) n us → (n ≤ length us) × (length us ≡ length xs)
+four v h w = wrote-inside (omega (arith, length-digits 256 4 v)) w
 
 again : tie.Need-loop-again Inv-loop μ-loop
 again c =
-    let f = four _ (c .before .before .write-be32 .ensures) (omega arith) in
+    let f = four _ (omega arith) (c .before .before .write-be32 .ensures) in
     (omega arith, (f .0, f .1 ∙ c .before .before .before .before .before .before .before .loop .inv .1 .1))
 
 pub laid-spec : {M : Type 1} → statement M
@@ -45,6 +42,6 @@ laid-spec =
     (λ c κs. omega arith)
     (λ c. search needs)
     (λ c. search needs)
-    (λ c. again c)
+    again
     (λ c. search needs)
     (λ c. search needs))

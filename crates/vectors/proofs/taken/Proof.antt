@@ -35,6 +35,6 @@ taken-spec =
     (λ c. search needs)
     (λ c. search needs)
     (λ c. search needs)
-    (λ c. again c)
+    again
     (λ c. search needs)
     (λ c. search needs))
