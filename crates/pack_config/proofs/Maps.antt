@@ -26,7 +26,7 @@ use Rattle.labels.specs.Words.{digestOf}
 use Rattle.pack.specs.Fixed.{utilityLabels}
 use Rattle.pack.specs.Payloads.{nameFrom, nameOf}
 use Rattle.pack.specs.Config.{Mapping, tagsOf, labelsOf, clashes, mappingAt, mappingsFrom}
-use Rattle.pack.specs.Reading.{padded}
+use Rattle.pack.specs.Slots.{padded}
 use Rattle.pack_config.specs.Tables.{indexed, Knows, standing, Inside, Judging, clashing, Empty, Tables, Hold, MapsRead}
 use Rattle.pack.specs.declared.Name.the-variants.{Label}
 use Rattle.pack.proofs.Padded.{length-padded, take-padded, set-padded}

@@ -12,7 +12,7 @@ use Rattle.refusals.specs.Outcomes.{Outcome, fine, refused, answered}
 use Rattle.pack.specs.Fixed.{utilityLabels, mappingCap}
 use Rattle.pack.specs.Payloads.{nameOf}
 use Rattle.pack.specs.Config.{Mapping, tagsOf, mappingsFrom}
-use Rattle.pack.specs.Reading.{padded}
+use Rattle.pack.specs.Slots.{padded}
 use Rattle.pack.specs.declared.Name.{Name}
 use Rattle.pack.specs.declared.Name.the-variants.{Label, Number}
 

@@ -15,7 +15,7 @@ use Rattle.refusals.specs.declared.Answer.the-variants as A
 use Rattle.refusals.specs.Outcomes.{Outcome, fine, refused}
 use Rattle.pack.specs.Payloads.{innerAt, payload}
 use Rattle.pack.specs.Items.{Part, one, many, Body, itemAt, syncHead, crcGood, itemsFrom, countOf}
-use Rattle.pack.specs.Reading.{slot, slots, blank, padded, shown}
+use Rattle.pack.specs.Slots.{slot, slots, blank, padded, shown}
 use Rattle.pack.specs.declared.Payload.{Payload}
 use Rattle.pack.specs.declared.Head.{Head}
 use Rattle.pack.specs.declared.Item.the-variants as I

@@ -14,7 +14,8 @@ use Rattle.refusals.specs.Outcomes.{Outcome, fine, refused, andThen}
 use Rattle.numbers.specs.Big.{bigAt}
 use Rattle.pack.specs.Config.{Mapping, tagsOf}
 use Rattle.pack.specs.Items.{Body, itemsFrom}
-use Rattle.pack.specs.Reading.{Read, valueStart, Opening, openingAt, readFrom, reading, shown}
+use Rattle.pack.specs.Reading.{Read, valueStart, Opening, openingAt, readFrom, reading}
+use Rattle.pack.specs.Slots.{shown}
 use Rattle.pack.proofs.Padded.{take-padded, length-padded}
 use Rattle.pack.proofs.Start.{start-small}
 use Rattle.pack_config.specs.First.{firstAt}

@@ -7,7 +7,7 @@ use native.Mathlib.Omega.{arith}
 use lib.ListN.{length, set, take, replicate, length-append, length-map}
 use lib.Seq.{sets, set-comm, take-all, take-suc, length-take-le}
 use Rattle.pack.specs.Items.{Part, one, many, countOf}
-use Rattle.pack.specs.Reading.{slot, slots, blank, padded}
+use Rattle.pack.specs.Slots.{slot, slots, blank, padded}
 use Rattle.pack.specs.declared.Payload.{Payload}
 use Rattle.pack.specs.declared.Head.{Head}
 use Rattle.pack.specs.declared.Item.{Item}

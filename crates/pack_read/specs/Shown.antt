@@ -12,7 +12,8 @@ use Rattle.pack.specs.Fixed.{itemCap}
 use Rattle.pack.specs.Config.{Mapping}
 use Rattle.pack.specs.Payloads.{innersFrom}
 use Rattle.pack.specs.Items.{Body, countOf}
-use Rattle.pack.specs.Reading.{Opening, reading, slot, slots, blank, padded, shown}
+use Rattle.pack.specs.Reading.{Opening, reading}
+use Rattle.pack.specs.Slots.{slot, slots, blank, padded, shown}
 use Rattle.pack.specs.declared.Payload.{Payload}
 use Rattle.pack.specs.declared.Head.{Head}
 use Rattle.pack.specs.declared.Item.the-variants as I
