@@ -6,7 +6,7 @@ use native.Mathlib.Numerals.{add-one}
 use native.Mathlib.Omega.{arith}
 use lib.ListN.{length, set, take, replicate, length-append, length-map}
 use lib.Seq.{sets, set-comm, take-all, take-suc, length-take-le}
-use Rattle.pack.specs.Items.{Part, one, many, countOf}
+use Rattle.pack.specs.Items.{Part, one, many}
 use Rattle.pack.specs.Slots.{slot, slots, blank, padded}
 use Rattle.pack.specs.declared.Payload.{Payload}
 use Rattle.pack.specs.declared.Head.{Head}
@@ -19,13 +19,6 @@ use Rattle.pack_slots.proofs.Laws.{length-in, slot-in}
 
 abbrev pub innerSlot : Payload → Slot
 innerSlot x = slot (I.Inner x)
-
--- so many slots as items and payloads
-pub length-slots : (ps : List Part) → length (slots ps) ≡ countOf ps
-unfolding slots countOf
-length-slots [] = refl
-length-slots (one x ∷ ps) = omega (arith, length-slots ps)
-length-slots (many h xs ∷ ps) = omega (arith, length-slots ps, length-append (map innerSlot xs) (slots ps), length-map xs innerSlot)
 
 pub slots-one : (ps : List Part) (x : Payload) → slots (ps ++ (one x ∷ [])) ≡ slots ps ++ (slot (I.Single x) ∷ [])
 unfolding slots
