@@ -16,10 +16,11 @@ use Rattle.pack.specs.Items.{Part, one, many, Body, itemAt, someInside, syncHea
 use Rattle.pack.specs.declared.Payload.{Payload}
 use Rattle.pack.specs.declared.Step.{Step}
 use Rattle.pack.specs.declared.Step.the-variants as S
+use Rattle.refusals.proofs.Lent.{refused-was, done-was}
+use Rattle.pack.proofs.Outcomes.{then-fine, then-refused, then-then, then-same, then-id}
 use Rattle.pack.proofs.Payloads.{plain-fits, open-fits}
 use Rattle.pack.proofs.Turns.{itemsOn, items-end, items-turn, inside-none, inside-some}
 use Rattle.pack_read.specs.Counts.{InsideTold}
-use Rattle.pack_read.proofs.Outcomes.{then-fine, then-refused, then-then, then-same, then-id, fine-of, refused-of}
 
 -- the inside of a Sync, as the definition cuts it and as the code does
 abbrev pub insideRun : List ℕ → List ℕ → ℕ → ℕ → ℕ → Outcome (List Payload)
@@ -117,32 +118,31 @@ module _ {s tags : List ℕ} {from : ℕ} {ps : List Part} {n at : ℕ} (g : Com
       answer = subst (λ (q : List ℕ). InsideTold q tags (v + 4) (n + 1) r) (inside-part s v l) i .told l (inside-enough s at n v l e)
 
       pub sync-refused : {why : Refusal} {p : ℕ} → r ≡ A.Refused why p → itemsFrom (length s) s tags from 0 ≡ refused why p
-      sync-refused d = stopped (turn e ∙ then-refused _ (then-refused (someInside at) (refused-of _ _ (sym d ∙ answer))))
+      sync-refused d = stopped (turn e ∙ then-refused _ (then-refused (someInside at) (refused-was _ answer d)))
 
       module _ {k : ℕ} (d : r ≡ A.Done k) where
-        inside : (P : Type 0) → ((xs : List Payload) → insideRun s tags v l n ≡ fine xs → k ≡ n + 1 + length xs → P) → P
-        inside P = fine-of (λ (xs : List Payload). n + 1 + length xs) (insideRun s tags v l n) P (sym d ∙ answer)
+        inside : (xs : List Payload) × (insideRun s tags v l n ≡ fine xs) × (n + 1 + length xs ≡ k)
+        inside = done-was (λ (xs : List Payload). n + 1 + length xs) answer d
 
         pub sync-some : n + 1 ≤ k
-        sync-some = inside (n + 1 ≤ k) (λ xs j m. omega arith)
+        sync-some = omega (arith, inside .2)
 
         pub sync-none : k ≡ n + 1 → itemsFrom (length s) s tags from 0 ≡ refused R.Sync at
-        sync-none u =
-            inside (itemsFrom (length s) s tags from 0 ≡ refused R.Sync at)
-            (λ xs j m. stopped (turn e ∙ then-refused _ (then-fine (someInside at) j ∙ inside-none at xs (omega arith))))
+        sync-none u = stopped (turn e ∙ then-refused _ (then-fine (someInside at) (inside .1) ∙ inside-none at (inside .0) (omega (arith, inside .2))))
 
-        pub sync-on : (k ≡ n + 1 → ⊥) → (P : Type 0)
-            → ((xs : List Payload) → insideRun s tags v l n ≡ fine xs → k ≡ n + 1 + length xs
-            → Coming s tags from (ps ++ (many (syncHead s at v l (length xs)) xs ∷ [])) k (v + l) → P)
-            → P
+        -- it holds payloads, and is one part more
+        pub sync-on : (k ≡ n + 1 → ⊥)
+            → (xs : List Payload) × (insideRun s tags v l n ≡ fine xs) × (n + 1 + length xs ≡ k) × Coming s tags from (ps ++ (many (syncHead s at v l (length xs)) xs ∷ [])) k (v + l)
         unfolding countOf
-        sync-on u P go =
-            inside P
-            (λ xs j m.
+        sync-on u =
             let f = open-fits s at n v l e in
-            let x = many (syncHead s at v l (length xs)) xs in
-            let all : insideRun s tags v l n ≡ fine xs → _≡_ {A = Outcome Body} (itemsFrom (g .fuel) s tags at n) (andThen (itemsFrom (g .fuel - 1) s tags (v + l) (n + 1 + length xs)) (with x))
-            = λ q. turn e ∙ then-fine _ (then-fine (someInside at) q ∙ inside-some at xs (λ z. u (omega arith))) in
-            go xs j m
-            (on x k (v + l) (omega arith) (i .few k d) (omega (arith, f .0 .later))
-            (all j ∙ ap (λ (z : ℕ). andThen (itemsFrom (g .fuel - 1) s tags (v + l) z) (with x)) (sym m))))
+            let xs = inside .0 in
+            let m = inside .2 in
+            let x = many (syncHead s at v l (length xs)) xs in (
+              xs,
+              inside .1,
+              m,
+              on x k (v + l) (omega arith) (i .few k d) (omega (arith, f .0 .later))
+                  (turn e ∙ then-fine _ (then-fine (someInside at) (inside .1) ∙ inside-some at xs (λ z. u (omega arith)))
+                  ∙ ap (λ (z : ℕ). andThen (itemsFrom (g .fuel - 1) s tags (v + l) z) (with x)) m),
+            )

@@ -14,10 +14,11 @@ use Rattle.pack.specs.Payloads.{innerAt, payload, innersFrom}
 use Rattle.pack.specs.declared.Payload.{Payload}
 use Rattle.pack.specs.declared.Found.{Found}
 use Rattle.pack.specs.declared.Found.the-variants.{Whole, Wrong}
+use Rattle.refusals.proofs.Lent.{answers, counts}
+use Rattle.pack.proofs.Outcomes.{then-fine, then-refused, then-then, then-same, then-id}
 use Rattle.pack.proofs.Payloads.{inner-within}
 use Rattle.pack.proofs.Turns.{innersOn, inners-end, inners-turn}
 use Rattle.pack_read.specs.Counts.{InsideTold}
-use Rattle.pack_read.proofs.Outcomes.{then-fine, then-refused, then-then, then-same, then-id, answered-fine, answered-refused}
 
 abbrev after : {A : Type 0} → List A → List A → Outcome (List A)
 after xs ys = fine (xs ++ ys)
@@ -79,11 +80,9 @@ pub record SomeWithin (q tags : List ℕ) (base fuel used k j : ℕ) : Type 0 wh
 module _ {q tags : List ℕ} {base used k j : ℕ} (g : (fuel : ℕ) → length q ≤ fuel → SomeWithin q tags base fuel used k j) where
   pub inside-done : length q ≤ j → InsideTold q tags base used (A.Done k)
   inside-done z = record {
-    told = λ fuel h.
-        let w = g fuel h .inside in
-        ap A.Done (sym (w .long)) ∙ answered-fine (λ (xs : List Payload). used + length xs) (inside-ends w z);
+    told = λ fuel h. let w = g fuel h .inside in counts (λ (xs : List Payload). used + length xs) (inside-ends w z) (ap A.Done (sym (w .long)));
     few = λ n e. let x : k ≡ n = cc in omega (arith, g (length q) (omega arith) .inside .room);
   }
 
   pub inside-refused : j < length q → {why : Refusal} → innerAt q j k ≡ Wrong why → {r : Answer} → r ≡ A.Refused why (base + j) → InsideTold q tags base used r
-  inside-refused h e i = record { told = λ fuel l. answered-refused _ (inside-stops (g fuel l .inside) h e) i; few = λ n d. absurd-eq (cc) }
+  inside-refused h e i = record { told = λ fuel l. answers _ (inside-stops (g fuel l .inside) h e) i; few = λ n d. absurd-eq (cc) }

@@ -1,4 +1,3 @@
-pub mod Outcomes
 pub mod Inside
 pub mod Coming
 mod Counting

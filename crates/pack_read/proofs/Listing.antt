@@ -1,11 +1,11 @@
 -- What the two loops of a reading keep: what is left, and that the slots hold the items so far.
-use Prim.Native.Nat.{ℕ, suc, _+_, _-_, _<_, _≤_}
+use Prim.Native.Nat.{ℕ, _+_, _-_, _<_, _≤_}
 use mathlib.Core.Path.{_≡_, refl, sym, ap, ap₂, _∙_, subst}
-use mathlib.Core.List.{List, [], _∷_, _++_, map, map-append}
+use mathlib.Core.List.{List, [], _∷_, _++_, map, map-append, append-nil}
 use mathlib.Core.Bool.{Bool}
 use native.Mathlib.Numerals.{add-one}
 use native.Mathlib.Omega.{arith}
-use lib.ListN.{length, set, take, drop, replicate, length-map}
+use lib.ListN.{length, set, take, drop, replicate, length-append, length-map}
 use lib.Seq.{sets}
 use Rattle.runs.proofs.Cases.{absurd-eq}
 use Rattle.refusals.specs.declared.Refusal.{Refusal}
@@ -22,14 +22,13 @@ use Rattle.pack.specs.declared.Slot.{Slot}
 use Rattle.pack.specs.declared.Reading.{Reading}
 use Rattle.pack.specs.declared.Found.the-variants.{Whole, Wrong}
 use Rattle.pack.specs.declared.Step.the-variants as S
-use Rattle.pack.proofs.Padded.{set-padded}
 use Rattle.pack.proofs.Slots.{slots-count}
 use Rattle.pack_read.proofs.Inside.{WithinSync, SomeWithin, inside-begins, inside-ends, inside-stops, inside-on, inside-done, inside-refused}
 use Rattle.pack_read.proofs.Coming.{Coming, coming-begins, coming-plain, sync-on, inside-part, inside-enough}
 use Rattle.pack_slots.specs.Slots.{slotsIn}
 use Rattle.pack_read.specs.Shown.{InsideRead, shownBody, outlineOf, doneOf, assembled, BodyTold}
 use Rattle.pack_read.specs.declared.Outline.{Outline}
-use Rattle.pack_read.proofs.Slots.{innerSlot, slots-one, slots-many, sets-padded, sets-snoc, sets-before}
+use Rattle.pack_read.proofs.Slots.{innerSlot, slots-more, sets-padded, sets-snoc, sets-before}
 
 -- the payloads of a Sync so far stand in the array from slot `used` on
 pub record Filling (q tags : List ℕ) (base fuel used : ℕ) (items₀ items : List Slot) (k j : ℕ) : Type 0 where
@@ -97,45 +96,42 @@ module _ {s tags : List ℕ} {from : ℕ} {items : List Slot} {n at : ℕ} (g : 
   used : length (slots (g .parts)) ≡ n
   used = slots-count (g .parts) ∙ g .coming .long
 
+  -- one part more, stored in its slots
+  listing-on : (x : Part) {m next : ℕ} {after : List Slot} → Coming s tags from (g .parts ++ (x ∷ [])) m next → after ≡ sets items n (slots (x ∷ [])) → Listing s tags from after m next
+  listing-on x coming put = record {
+    parts = g .parts ++ (x ∷ []);
+    coming = coming;
+    full =
+        let long = sym (slots-count (g .parts ++ (x ∷ []))) ∙ ap length (slots-more (g .parts) x) ∙ length-append (slots (g .parts)) (slots (x ∷ [])) in
+        put
+        ∙ ap (λ (a : List Slot). sets a n (slots (x ∷ []))) (g .full)
+        ∙ sets-padded 64 blank (slots (g .parts)) n (slots (x ∷ [])) used (omega (arith, long, used, coming .long, coming .room))
+        ∙ ap (padded 64 blank) (sym (slots-more (g .parts) x));
+  }
+
   module _ (h : at < length s) where
-    pub listing-plain : {t v l : ℕ} {x : Payload} → itemAt s at n ≡ S.Plain t v l → n < 64 → x ≡ payload tags at t v l → {after : List Slot}
+    pub listing-plain : {t v l : ℕ} {x : Payload} → itemAt s at n ≡ S.Plain t v l → x ≡ payload tags at t v l → {after : List Slot}
         → after ≡ set items n (slot (I.Single x)) → Listing s tags from after (n + 1) (v + l)
-    listing-plain {t} {v} {l} {x} e r i put = record {
-      parts = g .parts ++ (one (payload tags at t v l) ∷ []);
-      coming = coming-plain (g .coming) h e;
-      full =
-          put
-          ∙ ap₂ (λ (a : List Slot) (y : Payload). set a n (slot (I.Single y))) (g .full) i
-          ∙ set-padded 64 blank (slots (g .parts)) n used (slot (I.Single (payload tags at t v l))) r
-          ∙ ap (padded 64 blank) (sym (slots-one (g .parts) (payload tags at t v l)));
-    }
+    unfolding slots
+    listing-plain {t} {v} {l} e i put =
+        listing-on (one (payload tags at t v l)) (coming-plain (g .coming) h e) (put ∙ ap (λ (y : Payload). set items n (slot (I.Single y))) i)
 
     -- a Sync, by what is told of its inside, as the code cuts it
-    module _ {v l : ℕ} (e : itemAt s at n ≡ S.Open v l) {r : Answer} {items₁ : List Slot}
-        (cut : InsideRead (take (v + l - (v + 4)) (drop (v + 4) s)) tags (v + 4) (n + 1) r items items₁) where
-      pub listing-sync : {k : ℕ} → r ≡ A.Done k → (k ≡ n + 1 → ⊥) → {x : Head} → x ≡ syncHead s at v l (k - (n + 1)) → {after : List Slot}
-          → after ≡ set items₁ n (slot (I.Sync x)) → Listing s tags from after k (v + l)
-      listing-sync {k} d u {x} y {after} put =
-          sync-on (g .coming) h e (cut .inside) d u (Listing s tags from after k (v + l))
-          (λ xs j m coming.
-          let few = cut .inside .few k d in
-          let inner : k - (n + 1) ≡ length xs = omega arith in
-          let head = syncHead s at v l (length xs) in
-          let ys = slot (I.Sync head) ∷ map innerSlot xs in
-          let many-long : length ys ≡ suc (length xs) = ap suc (length-map xs innerSlot) in
-          let reads = subst (λ (q : List ℕ). InsideRead q tags (v + 4) (n + 1) r items items₁) (inside-part s v l) cut in
-          record {
-            parts = g .parts ++ (many head xs ∷ []);
-            coming = coming;
-            full =
-                put
-                ∙ ap₂ (λ (a : List Slot) (z : Head). set a n (slot (I.Sync z))) (reads .full l xs (inside-enough s at n v l e) j) (y ∙ ap (syncHead s at v l) inner)
-                ∙ sets-before items (n + 1) n (map innerSlot xs) (slot (I.Sync head)) (omega arith)
-                ∙ ap (λ (z : ℕ). sets (set items n (slot (I.Sync head))) z (map innerSlot xs)) (add-one n)
-                ∙ ap (λ (a : List Slot). sets a n ys) (g .full)
-                ∙ sets-padded 64 blank (slots (g .parts)) n ys used (omega (arith, many-long))
-                ∙ ap (padded 64 blank) (sym (slots-many (g .parts) head xs));
-          })
+    pub listing-sync : {v l k : ℕ} (e : itemAt s at n ≡ S.Open v l) {r : Answer} {items₁ : List Slot}
+        (cut : InsideRead (take (v + l - (v + 4)) (drop (v + 4) s)) tags (v + 4) (n + 1) r items items₁) → r ≡ A.Done k → (k ≡ n + 1 → ⊥) → {x : Head}
+        → x ≡ syncHead s at v l (k - (n + 1)) → {after : List Slot} → after ≡ set items₁ n (slot (I.Sync x)) → Listing s tags from after k (v + l)
+    unfolding slots
+    listing-sync {v} {l} {k} e {r} {items₁} cut d u y put =
+        let o = sync-on (g .coming) h e (cut .inside) d u in
+        let xs = o .0 in
+        let inner : k - (n + 1) ≡ length xs = omega (arith, o .2) in
+        let head = syncHead s at v l (length xs) in
+        let reads = subst (λ (q : List ℕ). InsideRead q tags (v + 4) (n + 1) r items items₁) (inside-part s v l) cut in
+        listing-on (many head xs) (o .3)
+        (put
+        ∙ ap₂ (λ (a : List Slot) (z : Head). set a n (slot (I.Sync z))) (reads .full l xs (inside-enough s at n v l e) (o .1)) (y ∙ ap (syncHead s at v l) inner)
+        ∙ sets-before items (n + 1) n (map innerSlot xs) (slot (I.Sync head)) (omega arith)
+        ∙ ap₂ (λ (z : ℕ) (ws : List Slot). sets (set items n (slot (I.Sync head))) z ws) (add-one n) (sym (append-nil (map innerSlot xs))))
 
 -- the items are read
 pub tells-done : {s tags : List ℕ} {from n at : ℕ} (slots : List ℕ) (g : Listing s tags from (slotsIn slots) n at) (offset mapped : ℕ) (all : List ℕ) {c : Bool} {r : Outline}

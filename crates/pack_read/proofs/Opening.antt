@@ -16,6 +16,8 @@ use Rattle.pack.specs.Config.{Mapping, tagsOf, configMaps}
 use Rattle.pack.specs.Items.{Body, itemsFrom, countOf}
 use Rattle.pack.specs.Reading.{Read, valueStart, Opening, openingAt, readFrom, reading, checked}
 use Rattle.pack.specs.Slots.{shown}
+use Rattle.refusals.proofs.Lent.{answers, refused-was, done-was}
+use Rattle.pack.proofs.Outcomes.{then-fine, then-refused, then-then}
 use Rattle.pack.proofs.Padded.{take-padded, length-padded}
 use Rattle.pack.proofs.Start.{start-small}
 use Rattle.pack_config.specs.First.{firstAt}
@@ -23,7 +25,6 @@ use Rattle.pack_config.specs.Tables.{Filled, Knows, Empty, Tables, Hold, MapsRe
 use Rattle.pack_config.specs.declared.First.the-variants as F
 use Rattle.pack_config.proofs.Tables.{tables-none}
 use Rattle.pack_config.proofs.Openings.{opens-without, opens-with, maps-short}
-use Rattle.pack_read.proofs.Outcomes.{then-fine, then-refused, then-then, answered-refused, fine-of, refused-of}
 use Rattle.pack_read.specs.Counts.{counted}
 use Rattle.pack_read.specs.Shown.{shownBody, outlineOf, Outlined, BodyTold, openedOf, Opens}
 use Rattle.pack_read.specs.declared.Outline.{Outline}
@@ -52,20 +53,19 @@ module _ (s : List ℕ) {tags places known : List ℕ} where
 
     module _ {v l : ℕ} (e : firstAt s at ≡ F.Config v l) {m : Answer} (g : MapsRead (configMaps s at v l) m tags places known) where
       pub open-stops : {why : Refusal} {p : ℕ} → m ≡ A.Refused why p → Opens (opening s) (O.Refused why p) tags places known
-      open-stops d = stops (then-fine (openingAt s) h ∙ opens-with s at v l e ∙ then-refused _ (refused-of length _ (sym d ∙ g .count)))
+      open-stops d = stops (then-fine (openingAt s) h ∙ opens-with s at v l e ∙ then-refused _ (refused-was length (g .count) d))
 
       pub open-with : {n f : ℕ} → m ≡ A.Done n → f ≡ bigAt s v 2 → Opens (opening s) (O.From f n (v + l)) tags places known
       open-with {n} {f} d b =
-          fine-of length (configMaps s at v l) (Opens (opening s) (O.From f n (v + l)) tags places known) (sym d ∙ g .count)
-          (λ ms q i.
-          subst (λ (o : Opened). Opens (opening s) o tags places known) (ap₂ (λ (x k : ℕ). O.From x k (v + l)) (sym b) (sym i))
-          (begins (then-fine (openingAt s) h ∙ opens-with s at v l e ∙ then-fine _ q) (subst (λ (o : Outcome (List Mapping)). Hold o tags places known) q (g .tables))))
+          let m = done-was length (g .count) d in
+          subst (λ (o : Opened). Opens (opening s) o tags places known) (ap₂ (λ (x k : ℕ). O.From x k (v + l)) (sym b) (m .2))
+          (begins (then-fine (openingAt s) h ∙ opens-with s at v l e ∙ then-fine _ (m .1)) (subst (λ (o : Outcome (List Mapping)). Hold o tags places known) (m .1) (g .tables)))
 
       -- a Config whose mappings were read has its two bytes of offset
       pub open-sized : {n : ℕ} → m ≡ A.Done n → 2 ≤ l
       open-sized {n} d =
           split (ltb l 2)
-          (λ b. fine-of length (configMaps s at v l) (2 ≤ l) (sym d ∙ g .count) (λ ms q i. let z = sym q ∙ maps-short s at v l (ltb-true _ _ b) in absurd-eq (cc)))
+          (λ b. let z = sym (done-was length (g .count) d .1) ∙ maps-short s at v l (ltb-true _ _ b) in absurd-eq (cc))
           (λ b. ltb-false _ _ b)
 
 -- what is told of an opening
@@ -111,7 +111,7 @@ module _ (s : List ℕ) {r : Opened} {tags places known : List ℕ} (g : Opens (
 
   pub checked-refused : {why : Refusal} {p : ℕ} {a : Answer} → r ≡ O.Refused why p → a ≡ A.Refused why p → a ≡ checked s
   unfolding checked
-  checked-refused e q = answered-refused _ (whole-refused e) q
+  checked-refused e q = answers _ (whole-refused e) q
 
   pub outlined-refused : {why : Refusal} {p : ℕ} {o : Outline} {slots : List ℕ} → r ≡ O.Refused why p → o ≡ outlineOf (shown (refused why p))
       → Outlined s o slots tags places

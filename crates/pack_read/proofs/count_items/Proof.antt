@@ -8,7 +8,7 @@ use Rattle.pack.specs.Items.{itemAt}
 use Rattle.pack.specs.declared.Step.the-variants as S
 use Rattle.pack.proofs.Payloads.{plain-fits, open-fits, close-ends}
 use Rattle.pack_read.specs.Counts.{counted}
-use Rattle.pack_read.proofs.Outcomes.{answered-refused, answered-fine}
+use Rattle.refusals.proofs.Lent.{answers, counts}
 use Rattle.pack_read.proofs.Coming.{coming-begins, coming-ends, coming-bad, coming-good, coming-crc, coming-plain, sync-refused, sync-none, sync-on, inside-long, inside-part}
 use Prim.Native.Nat.{ℕ, _-_}
 use mathlib.Core.List.{List, []}
@@ -57,7 +57,7 @@ refuse-requires c κs = search needs
 returns : tie.Need-returns Inv-loop μ-loop
 returns c =
     let f = c .before .before in
-    λ tags. answered-refused counted (coming-bad (f .before .before .before .before .loop .inv tags .coming) (f .before .before .before .loop-test .taken) (sym (f .before .before .item-at .ensures) ∙ f .step .given .1)) (c .refuse .ensures)
+    λ tags. answers counted (coming-bad (f .before .before .before .before .loop .inv tags .coming) (f .before .before .before .loop-test .taken) (sym (f .before .before .item-at .ensures) ∙ f .step .given .1)) (c .refuse .ensures)
 
 enum-known-step-2 : tie.Need-enum-known-step-2 Inv-loop μ-loop
 enum-known-step-2 c = search needs
@@ -70,7 +70,7 @@ returns-2 c =
     let f = c .before .before .before in
     λ tags.
     let g = f .before .before .before .before .loop .inv tags .coming in
-    ap A.Done (sym (g .long)) ∙ answered-fine counted (coming-good g (f .before .before .before .loop-test .taken) (closes f) (sym (c .before .crc-good .ensures) ∙ c .if1 .taken))
+    counts counted (coming-good g (f .before .before .before .loop-test .taken) (closes f) (sym (c .before .crc-good .ensures) ∙ c .if1 .taken)) (ap A.Done (sym (g .long)))
 
 refuse-requires-2 : tie.Need-refuse-requires-2 Inv-loop μ-loop
 refuse-requires-2 c κs = search needs
@@ -79,7 +79,7 @@ returns-3 : tie.Need-returns-3 Inv-loop μ-loop
 returns-3 c =
     let f = c .before .before .before .before in
     λ tags.
-    answered-refused counted (coming-crc (f .before .before .before .before .loop .inv tags .coming) (f .before .before .before .loop-test .taken) (closes f) (sym (c .before .before .crc-good .ensures) ∙ c .before .if1 .left)) (c .refuse2 .ensures)
+    answers counted (coming-crc (f .before .before .before .before .loop .inv tags .coming) (f .before .before .before .loop-test .taken) (closes f) (sym (c .before .before .crc-good .ensures) ∙ c .before .if1 .left)) (c .refuse2 .ensures)
 
 enum-known-step-3 : tie.Need-enum-known-step-3 Inv-loop μ-loop
 enum-known-step-3 c = search needs
@@ -134,7 +134,7 @@ returns-4 : tie.Need-returns-4 Inv-loop μ-loop
 returns-4 c =
     let k = c .before .before .before .before in
     let f = k .before .before .before in
-    λ tags. answered-refused counted (sync-refused (f .before .before .before .before .loop .inv tags .coming) (f .before .before .before .loop-test .taken) (opens f) (k .count-inside .ensures tags) (c .before .before .inside .given .1)) (c .refuse3 .ensures)
+    λ tags. answers counted (sync-refused (f .before .before .before .before .loop .inv tags .coming) (f .before .before .before .loop-test .taken) (opens f) (k .count-inside .ensures tags) (c .before .before .inside .given .1)) (c .refuse3 .ensures)
 
 enum-known-inside-2 : tie.Need-enum-known-inside-2 Inv-loop μ-loop
 enum-known-inside-2 c = search needs
@@ -149,7 +149,7 @@ returns-5 : tie.Need-returns-5 Inv-loop μ-loop
 returns-5 c =
     let k = c .before .before .before .before .before in
     let f = k .before .before .before in
-    λ tags. answered-refused counted (sync-none (f .before .before .before .before .loop .inv tags .coming) (f .before .before .before .loop-test .taken) (opens f) (k .count-inside .ensures tags) (c .before .before .before .inside2 .given .1) (c .before .if2 .taken)) (c .refuse4 .ensures)
+    λ tags. answers counted (sync-none (f .before .before .before .before .loop .inv tags .coming) (f .before .before .before .loop-test .taken) (opens f) (k .count-inside .ensures tags) (c .before .before .before .inside2 .given .1) (c .before .if2 .taken)) (c .refuse4 .ensures)
 
 loop-less-2 : tie.Need-loop-less-2 Inv-loop μ-loop
 loop-less-2 c = let f = open-fits _ _ _ _ _ (opens (c .before .before .before .before .before .before .before)) in omega (arith, f .0 .later, f .0 .inside, c .before .before .before .before .before .before .before .before .before .before .loop-test .taken)
@@ -158,13 +158,13 @@ loop-again-2 : tie.Need-loop-again-2 Inv-loop μ-loop
 loop-again-2 c =
     let k = c .before .before .before .before in
     let f = k .before .before .before in
-    λ tags. sync-on (f .before .before .before .before .loop .inv tags .coming) (f .before .before .before .loop-test .taken) (opens f) (k .count-inside .ensures tags) (c .before .before .inside2 .given .1) (c .if2 .left) _ (λ xs j m g. record { parts = _; coming = g })
+    λ tags. record { parts = _; coming = sync-on (f .before .before .before .before .loop .inv tags .coming) (f .before .before .before .loop-test .taken) (opens f) (k .count-inside .ensures tags) (c .before .before .inside2 .given .1) (c .if2 .left) .3 }
 
 returns-6 : tie.Need-returns-6 Inv-loop μ-loop
 returns-6 c =
     λ tags.
     let g = c .before .loop .inv tags .coming in
-    ap A.Done (sym (g .long)) ∙ answered-fine counted (coming-ends g (c .loop-test .left))
+    counts counted (coming-ends g (c .loop-test .left)) (ap A.Done (sym (g .long)))
 
 pub count-items-spec : {M : Type 1} → statement M
 count-items-spec =

@@ -132,7 +132,7 @@ loop-again : tie.Need-loop-again Inv-loop μ-loop
 loop-again c =
     let p = c .before .before .before .before in
     let l = p .before .before .before in
-    listing-plain (l .before .loop .inv) (l .loop-test .taken) (plain p) (fits p .room) (c .before .before .payload .ensures) (c .put .ensures)
+    listing-plain (l .before .loop .inv) (l .loop-test .taken) (plain p) (c .before .before .payload .ensures) (c .put .ensures)
 
 enum-known-step-4 : tie.Need-enum-known-step-4 Inv-loop μ-loop
 enum-known-step-4 c = search needs
