@@ -1,13 +1,13 @@
--- The tables of the mappings: what they hold at first and after a refusal, and one tag more.
+-- The tables of the mappings: one tag more in the index, what they hold at first and after a refusal, and their columns.
 use Prim.Native.Nat.{ℕ, suc, _+_, _<_, _≤_}
 use mathlib.Core.Path.{_≡_, refl, sym, ap, _∙_, subst}
-use mathlib.Core.List.{List, [], _∷_, _++_}
+use mathlib.Core.List.{List, [], _∷_, _++_, map, map-append}
 use mathlib.Core.Bool.{true, false}
 use native.Mathlib.Nat.{zero-add}
 use native.Mathlib.Numerals.{add-one}
 use native.Mathlib.Omega.{arith}
 use lib.Dec.{eqb}
-use lib.ListN.{length, getD, set, replicate, getD-replicate}
+use lib.ListN.{length, getD, set, take, replicate, length-map, getD-replicate}
 use lib.Seq.{getD-set-same, getD-set-other}
 use borrow.Author.Tests.{eq-eqb, ne-eqb, eqb-true, eqb-false}
 use Rattle.runs.specs.Same.{among}
@@ -15,10 +15,13 @@ use Rattle.runs.proofs.Cases.{split, absurd-eq}
 use Rattle.refusals.specs.declared.Refusal.{Refusal}
 use Rattle.refusals.specs.declared.Answer.{Answer}
 use Rattle.refusals.specs.declared.Answer.the-variants as A
-use Rattle.refusals.specs.Outcomes.{Outcome, fine, refused, answered}
+use Rattle.refusals.specs.Outcomes.{Outcome, fine, refused}
+use Rattle.refusals.proofs.Lent.{answers}
 use Rattle.pack.specs.Payloads.{nameFrom, nameOf}
 use Rattle.pack.specs.Config.{Mapping}
-use Rattle.pack_config.specs.Tables.{indexed, Knows, Empty, Tables, Hold, MapsRead}
+use Rattle.pack.specs.Slots.{padded}
+use Rattle.pack.proofs.Padded.{length-padded, take-padded, set-padded}
+use Rattle.pack_config.specs.Tables.{Filled, indexed, Knows, Empty, Tables, MapsRead}
 use Rattle.pack.specs.declared.Name.the-variants.{Label}
 
 -- one tag more: its name is its index, and no other tag's name changes
@@ -61,5 +64,16 @@ tables-none e = record { tagged = e .tagged; placed = e .placed; index = subst (
 
 -- a refusal says nothing of the tables
 pub read-refused : {o : Outcome (List Mapping)} {why : Refusal} {p : ℕ} {r : Answer} {us vs ws : List ℕ} → o ≡ refused why p → r ≡ A.Refused why p → MapsRead o r us vs ws
-unfolding Hold answered
-read-refused {o} {why} {p} {r} {us} {vs} {ws} e q = subst (λ (x : Outcome (List Mapping)). MapsRead x r us vs ws) (sym e) (record { count = q; tables = tt })
+read-refused e q = record { count = answers length e q; tables = λ ms d. absurd-eq (cc) }
+
+-- a column of the mappings as a table has it: the places in use, and one mapping more
+module _ (ms : List Mapping) (f : Mapping → ℕ) {table : List ℕ} {n : ℕ} (e : table ≡ padded 32 0 (map f ms)) (l : length ms ≡ n) where
+  pub column-is : take n table ≡ map f ms
+  column-is = ap (take n) e ∙ take-padded 32 0 (map f ms) n (length-map ms f ∙ l)
+
+  pub column-filled : n ≤ 32 → Filled n table
+  column-filled h = let long = ap length e ∙ length-padded 32 0 (map f ms) n (length-map ms f ∙ l) h in record { few = h; there = omega arith }
+
+  pub column-more : (m : Mapping) → n < 32 → set table n (f m) ≡ padded 32 0 (map f (ms ++ (m ∷ [])))
+  column-more m h =
+      ap (λ (q : List ℕ). set q n (f m)) e ∙ set-padded 32 0 (map f ms) n (length-map ms f ∙ l) (f m) h ∙ ap (padded 32 0) (sym (map-append f ms (m ∷ [])))

@@ -7,7 +7,7 @@ use lib.ListN.{length, take, drop, getD, replicate}
 use Rattle.runs.specs.Same.{listed}
 use Rattle.runs.specs.Those.{Each}
 use Rattle.refusals.specs.declared.Answer.{Answer}
-use Rattle.refusals.specs.Outcomes.{Outcome, fine, refused, answered}
+use Rattle.refusals.specs.Outcomes.{Outcome, fine, answered}
 use Rattle.pack.specs.Fixed.{mappingCap}
 use Rattle.pack.specs.Payloads.{nameOf}
 use Rattle.pack.specs.Config.{Mapping, tagsOf, placesOf}
@@ -59,12 +59,7 @@ pub record Tables (ms : List Mapping) (tags places known : List ℕ) : Type 0 wh
   pub index : Knows (tagsOf ms) known
   pub few : length ms ≤ mappingCap
 
--- they hold the mappings that were read; after a refusal nothing is said of them
-unfoldable pub Hold : Outcome (List Mapping) → List ℕ → List ℕ → List ℕ → Type 0
-Hold (fine ms) tags places known = Tables ms tags places known
-Hold (refused why place) tags places known = Unit
-
--- what reading mappings gives: how many there are, or the refusal; and the tables
+-- what reading mappings gives: how many there are, or the refusal; and the tables hold those that were read
 pub record MapsRead (o : Outcome (List Mapping)) (answer : Answer) (tags places known : List ℕ) : Type 0 where
   pub count : answer ≡ answered length o
-  pub tables : Hold o tags places known
+  pub tables : (ms : List Mapping) → o ≡ fine ms → Tables ms tags places known

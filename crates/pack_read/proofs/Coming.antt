@@ -62,6 +62,11 @@ coming-begins s tags from = record {
   same = then-id (before []) (λ b. refl) (itemsFrom (length s) s tags from 0);
 }
 
+-- the same for some items, which is all that a check keeps
+pub record Counting (s tags : List ℕ) (from n at : ℕ) : Type 0 where
+  pub parts : List Part
+  pub coming : Coming s tags from parts n at
+
 module _ {s tags : List ℕ} {from : ℕ} {ps : List Part} {n at : ℕ} (g : Coming s tags from ps n at) where
   ended : {c : Bool} → itemsFrom (g .fuel) s tags at n ≡ fine (record { parts = []; crc = c }) → itemsFrom (length s) s tags from 0 ≡ fine (record { parts = ps; crc = c })
   ended {c} e = sym (g .same) ∙ then-fine (before ps) e ∙ ap (λ (l : List Part). fine (record { parts = l; crc = c })) (append-nil ps)

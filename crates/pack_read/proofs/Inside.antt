@@ -60,10 +60,10 @@ module _ {q tags : List ℕ} {base fuel₀ used : ℕ} {xs : List Payload} {k j 
         let left = innersFrom (g .fuel - 1) q tags base (v + l) (k + 1) in
         record {
           fuel = g .fuel - 1;
-          room = omega (arith, w .1);
+          room = omega (arith, w .room);
           long = omega (arith, length-append xs (x ∷ []), g .long);
-          within = w .0 .inside;
-          enough = omega (arith, g .enough, w .0 .later);
+          within = w .inside;
+          enough = omega (arith, g .enough, w .later);
           same =
               then-same (after (xs ++ (x ∷ []))) (λ ys. after xs (x ∷ ys)) (λ ys. ap fine (append-assoc xs (x ∷ []) ys)) left
               ∙ sym (then-then left (λ ys. fine (x ∷ ys)) (after xs))

@@ -1,6 +1,5 @@
 pub mod Inside
 pub mod Coming
-mod Counting
 pub mod One
 pub mod Outlines
 mod Slots

@@ -7,9 +7,8 @@ use lib.ListN.{length}
 use lib.Seq.{sets}
 use Rattle.refusals.specs.declared.Answer.{Answer}
 use Rattle.refusals.specs.declared.Answer.the-variants as A
-use Rattle.refusals.specs.Outcomes.{Outcome, fine, refused, andThen}
+use Rattle.refusals.specs.Outcomes.{Outcome, fine, refused}
 use Rattle.pack.specs.Fixed.{itemCap}
-use Rattle.pack.specs.Config.{Mapping}
 use Rattle.pack.specs.Payloads.{innersFrom}
 use Rattle.pack.specs.Items.{Body, countOf}
 use Rattle.pack.specs.Reading.{Opening, reading}
@@ -18,7 +17,7 @@ use Rattle.pack.specs.declared.Payload.{Payload}
 use Rattle.pack.specs.declared.Item.the-variants as I
 use Rattle.pack.specs.declared.Slot.{Slot}
 use Rattle.pack.specs.declared.Reading.{Reading}
-use Rattle.pack_config.specs.Tables.{Hold}
+use Rattle.pack_config.specs.Tables.{Tables}
 use Rattle.pack_slots.specs.Slots.{slotsIn}
 use Rattle.pack_read.specs.Counts.{InsideTold}
 use Rattle.pack_read.specs.declared.Outline.{Outline}
@@ -80,11 +79,7 @@ unfoldable pub openedOf : Outcome Opening → Opened
 openedOf (fine o) = O.From (o .offset) (length (o .mappings)) (o .next)
 openedOf (refused why place) = O.Refused why place
 
--- the mappings of an opening
-abbrev pub mapsOf : Outcome Opening → Outcome (List Mapping)
-mapsOf o = andThen o (λ x. fine (x .mappings))
-
 -- and the tables of its mappings
 pub record Opens (o : Outcome Opening) (r : Opened) (tags places known : List ℕ) : Type 0 where
   pub told : r ≡ openedOf o
-  pub tables : Hold (mapsOf o) tags places known
+  pub tables : (x : Opening) → o ≡ fine x → Tables (x .mappings) tags places known

@@ -51,13 +51,13 @@ enum-known-found-2 : tie.Need-enum-known-found-2 Inv-loop μ-loop
 enum-known-found-2 c = search needs
 
 add-n : tie.Need-add-n Inv-loop μ-loop
-add-n c = let w = inner-within _ _ _ _ _ _ (whole (c .before)) in omega (arith, w .1)
+add-n c = let w = inner-within _ _ _ _ _ _ (whole (c .before)) in omega (arith, w .room)
 
 add-at : tie.Need-add-at Inv-loop μ-loop
-add-at c = let w = inner-within _ _ _ _ _ _ (whole (c .before)) in omega (arith, w .0 .inside, c .before .before .before .before .before .before .before .pre .1)
+add-at c = let w = inner-within _ _ _ _ _ _ (whole (c .before)) in omega (arith, w .inside, c .before .before .before .before .before .before .before .pre .1)
 
 loop-less : tie.Need-loop-less Inv-loop μ-loop
-loop-less c = let w = inner-within _ _ _ _ _ _ (whole (c .before)) in omega (arith, w .0 .later, w .0 .inside, c .before .before .before .before .loop-test .taken)
+loop-less c = let w = inner-within _ _ _ _ _ _ (whole (c .before)) in omega (arith, w .later, w .inside, c .before .before .before .before .loop-test .taken)
 
 loop-again : tie.Need-loop-again Inv-loop μ-loop
 loop-again c =

@@ -9,11 +9,10 @@ use Rattle.pack.specs.declared.Step.the-variants as S
 use Rattle.pack.proofs.Payloads.{plain-fits, open-fits, close-ends}
 use Rattle.pack_read.specs.Counts.{counted}
 use Rattle.refusals.proofs.Lent.{answers, counts}
-use Rattle.pack_read.proofs.Coming.{coming-begins, coming-ends, coming-bad, coming-good, coming-crc, coming-plain, sync-refused, sync-none, sync-on, inside-long, inside-part}
+use Rattle.pack_read.proofs.Coming.{Counting, coming-begins, coming-ends, coming-bad, coming-good, coming-crc, coming-plain, sync-refused, sync-none, sync-on, inside-long, inside-part}
 use Prim.Native.Nat.{ℕ, _-_}
 use mathlib.Core.List.{List, []}
 use lib.ListN.{length}
-use Rattle.pack_read.proofs.Counting.{Counting}
 use Rattle.pack_read.proofs.count_items.Statement.{statement}
 use Rattle.pack_read.proofs.count_items.Tie as tie
 

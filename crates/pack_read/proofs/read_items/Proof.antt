@@ -5,12 +5,12 @@ use borrow.Author.Needs.{needs}
 use denote.Ref.{now}
 use Rattle.pack.specs.Items.{itemAt}
 use Rattle.pack.specs.declared.Step.the-variants as S
-use Rattle.pack.proofs.Payloads.{Fits, plain-fits, open-fits, close-ends}
+use Rattle.pack.proofs.Payloads.{plain-fits, open-fits, close-ends}
 use Rattle.pack_read.proofs.Coming.{coming-ends, coming-bad, coming-good, coming-crc, sync-refused, sync-some, sync-none, inside-long, inside-part}
 use Rattle.pack_read.proofs.Listing.{Listing, listing-begins, tells-refused, tells-done, listing-plain, listing-sync}
 use Rattle.pack_slots.specs.Slots.{slotsIn}
 use Rattle.pack_slots.proofs.Laws.{slots-none}
-use Prim.Native.Nat.{_-_, _≤_}
+use Prim.Native.Nat.{_-_}
 use lib.ListN.{length, take}
 use Rattle.pack_read.proofs.read_items.Statement.{statement}
 use Rattle.pack_read.proofs.read_items.Tie as tie
@@ -30,7 +30,7 @@ Close-at c =
 closes : (c : tie.After-step2 Inv-loop μ-loop) → Close-at c
 closes c = sym (c .before .before .item-at .ensures) ∙ c .step2 .given .1
 
--- in the arm of an audio payload, what stands there, and that it fits
+-- in that of an audio payload
 abbrev Plain-at : tie.After-step3 Inv-loop μ-loop → Type 0
 Plain-at c =
     let l = c .before .before .before .before in
@@ -38,14 +38,6 @@ Plain-at c =
 
 plain : (c : tie.After-step3 Inv-loop μ-loop) → Plain-at c
 plain c = sym (c .before .before .item-at .ensures) ∙ c .step3 .given .1
-
-abbrev Plain-fits : tie.After-step3 Inv-loop μ-loop → Type 0
-Plain-fits c =
-    let l = c .before .before .before .before in
-    Fits (now (l .before .before .args .s)) (l .loop .at) (l .loop .n) (c .step3 .given .0 .1 .0) (c .step3 .given .0 .1 .1 .0)
-
-fits : (c : tie.After-step3 Inv-loop μ-loop) → Plain-fits c
-fits c = plain-fits _ _ _ _ _ _ (plain c)
 
 -- and in that of a Sync
 abbrev Open-at : tie.After-step4 Inv-loop μ-loop → Type 0
@@ -55,14 +47,6 @@ Open-at c =
 
 opens : (c : tie.After-step4 Inv-loop μ-loop) → Open-at c
 opens c = sym (c .before .before .item-at .ensures) ∙ c .step4 .given .1
-
-abbrev Open-fits : tie.After-step4 Inv-loop μ-loop → Type 0
-Open-fits c =
-    let l = c .before .before .before .before in
-    Fits (now (l .before .before .args .s)) (l .loop .at) (l .loop .n) (c .step4 .given .0 .0) (c .step4 .given .0 .1 .0) × (4 ≤ c .step4 .given .0 .1 .0)
-
-holds : (c : tie.After-step4 Inv-loop μ-loop) → Open-fits c
-holds c = open-fits _ _ _ _ _ (opens c)
 
 loop-holds : tie.Need-loop-holds Inv-loop μ-loop
 loop-holds c = listing-begins _ _ _ (ap slotsIn (c .before .pre .3) ∙ slots-none)
@@ -112,21 +96,21 @@ enum-known-step-3 c = search needs
 
 payload-requires : tie.Need-payload-requires Inv-loop μ-loop
 payload-requires c κs =
-    let f = fits (c .before) in
+    let f = plain-fits _ _ _ _ _ _ (plain (c .before)) in
     let p = c .before .before .before .before .before .before .before .pre in
     (p .1, p .2, omega (arith, f .later, f .inside, p .0))
 
 put-requires : tie.Need-put-requires Inv-loop μ-loop
-put-requires c κs = fits (c .before .before .before) .room
+put-requires c κs = plain-fits _ _ _ _ _ _ (plain (c .before .before .before)) .room
 
 add-n : tie.Need-add-n Inv-loop μ-loop
-add-n c = omega (arith, fits (c .before .before .before .before) .room)
+add-n c = omega (arith, plain-fits _ _ _ _ _ _ (plain (c .before .before .before .before)) .room)
 
 add-at : tie.Need-add-at Inv-loop μ-loop
-add-at c = let p = c .before .before .before .before in omega (arith, fits p .inside, p .before .before .before .before .before .before .pre .0)
+add-at c = let p = c .before .before .before .before in omega (arith, plain-fits _ _ _ _ _ _ (plain p) .inside, p .before .before .before .before .before .before .pre .0)
 
 loop-less : tie.Need-loop-less Inv-loop μ-loop
-loop-less c = let p = c .before .before .before .before in let f = fits p in omega (arith, f .later, f .inside, p .before .before .before .loop-test .taken)
+loop-less c = let p = c .before .before .before .before in let f = plain-fits _ _ _ _ _ _ (plain p) in omega (arith, f .later, f .inside, p .before .before .before .loop-test .taken)
 
 loop-again : tie.Need-loop-again Inv-loop μ-loop
 loop-again c =
@@ -138,27 +122,27 @@ enum-known-step-4 : tie.Need-enum-known-step-4 Inv-loop μ-loop
 enum-known-step-4 c = search needs
 
 add-base : tie.Need-add-base Inv-loop μ-loop
-add-base c = let f = holds (c .before) in omega (arith, f .0 .inside, f .1, c .before .before .before .before .before .before .before .pre .0)
+add-base c = let f = open-fits _ _ _ _ _ (opens (c .before)) in omega (arith, f .0 .inside, f .1, c .before .before .before .before .before .before .before .pre .0)
 
 add-end : tie.Need-add-end Inv-loop μ-loop
-add-end c = let f = holds (c .before) in omega (arith, f .0 .inside, c .before .before .before .before .before .before .before .pre .0)
+add-end c = let f = open-fits _ _ _ _ _ (opens (c .before)) in omega (arith, f .0 .inside, c .before .before .before .before .before .before .before .pre .0)
 
 add-first : tie.Need-add-first Inv-loop μ-loop
-add-first c = omega (arith, holds (c .before) .0 .room)
+add-first c = omega (arith, open-fits _ _ _ _ _ (opens (c .before)) .0 .room)
 
 sub-read-inside : tie.Need-sub-read-inside Inv-loop μ-loop
-sub-read-inside c = omega (arith, holds (c .before) .1)
+sub-read-inside c = omega (arith, open-fits _ _ _ _ _ (opens (c .before)) .1)
 
 part-read-inside-start : tie.Need-part-read-inside-start Inv-loop μ-loop
-part-read-inside-start c = omega (arith, holds (c .before) .1)
+part-read-inside-start c = omega (arith, open-fits _ _ _ _ _ (opens (c .before)) .1)
 
 part-read-inside-end : tie.Need-part-read-inside-end Inv-loop μ-loop
-part-read-inside-end c = omega (arith, holds (c .before) .0 .inside)
+part-read-inside-end c = omega (arith, open-fits _ _ _ _ _ (opens (c .before)) .0 .inside)
 
 read-inside-requires : tie.Need-read-inside-requires Inv-loop μ-loop
 read-inside-requires c κs =
     let o = c .before .before .before in
-    let f = holds o in
+    let f = open-fits _ _ _ _ _ (opens o) in
     let a = o .before .before .before .before .before .before in
     let s = now (a .args .s) in
     let v = o .step4 .given .0 .0 in
@@ -202,17 +186,18 @@ head-requires : tie.Need-head-requires Inv-loop μ-loop
 head-requires c κs =
     let k = c .before .before .before .before in
     let o = k .before .before .before .before in
-    let f = holds o in
+    let f = open-fits _ _ _ _ _ (opens o) in
     (omega (arith, f .0 .inside, f .1), omega (arith, f .0 .later, f .0 .inside, o .before .before .before .before .before .before .pre .0), omega (arith, k .read-inside .ensures .inside .few _ (c .before .before .inside2 .given .1)))
 
 put-requires-2 : tie.Need-put-requires-2 Inv-loop μ-loop
-put-requires-2 c κs = let k = c .before .before .before .before .before .before in holds (k .before .before .before .before) .0 .room
+put-requires-2 c κs = let k = c .before .before .before .before .before .before in open-fits _ _ _ _ _ (opens (k .before .before .before .before)) .0 .room
 
 loop-less-2 : tie.Need-loop-less-2 Inv-loop μ-loop
 loop-less-2 c =
     let k = c .before .before .before .before .before .before .before in
     let o = k .before .before .before .before in
-    omega (arith, holds o .0 .later, holds o .0 .inside, o .before .before .before .loop-test .taken)
+    let f = open-fits _ _ _ _ _ (opens o) in
+    omega (arith, f .0 .later, f .0 .inside, o .before .before .before .loop-test .taken)
 
 loop-again-2 : tie.Need-loop-again-2 Inv-loop μ-loop
 loop-again-2 c =
