@@ -1,11 +1,13 @@
--- One turn of each definition that goes through a pack: the mappings of a Config, the payloads inside a Sync, and the items.
+-- One turn of each definition that goes through a pack: the mappings of a Config, the payloads inside a Sync, the items; and its start.
 use Prim.Native.Nat.{ℕ, zero, suc, _+_, _-_, _<_, _≤_}
 use mathlib.Core.Path.{_≡_, refl, ap, _∙_}
 use mathlib.Core.List.{List, [], _∷_, _++_}
 use mathlib.Core.Bool.{true, false, cond}
 use native.Mathlib.Omega.{arith}
+use lib.Dec.{ltb}
 use lib.ListN.{length, take, drop}
-use borrow.Author.Tests.{le-ltb, lt-ltb, le-leb, lt-leb}
+use borrow.Author.Tests.{le-ltb, lt-ltb, le-leb, lt-leb, ltb-false}
+use Rattle.runs.proofs.Cases.{split, absurd-eq}
 use Rattle.refusals.specs.declared.Refusal.the-variants as R
 use Rattle.refusals.specs.Outcomes.{Outcome, fine, refused, andThen}
 use Rattle.numbers.specs.declared.TagRead.the-variants as T
@@ -13,6 +15,7 @@ use Rattle.numbers.specs.Tags.{tagAt}
 use Rattle.pack.specs.Config.{Mapping, tagsOf, labelsOf, clashes, mappingAt, mappingsFrom}
 use Rattle.pack.specs.Payloads.{innerAt, caseFound, payload, innersFrom}
 use Rattle.pack.specs.Items.{one, many, Body, itemAt, caseStep, someInside, insideOf, syncHead, crcGood, with, itemsFrom}
+use Rattle.pack.specs.Reading.{valueStart}
 use Rattle.pack.specs.declared.Found.{Found}
 use Rattle.pack.specs.declared.Payload.{Payload}
 use Rattle.pack.specs.declared.Step.{Step}
@@ -103,3 +106,9 @@ pub inside-some : (at : ℕ) (xs : List Payload) → (length xs ≡ 0 → ⊥) �
 unfolding someInside
 inside-some at [] z = absurd (z refl)
 inside-some at (x ∷ xs) z = refl
+
+-- a pack whose value's start was found is not above the cap
+pub start-small : (s : List ℕ) (n : ℕ) → valueStart s ≡ fine n → length s ≤ 32768
+unfolding valueStart
+start-small s n h =
+    split (ltb 32768 (length s)) (λ e. let i : _≡_ {A = Outcome ℕ} (refused R.Big 0) (fine n) = simp e at h in absurd-eq (cc)) (λ e. ltb-false _ _ e)

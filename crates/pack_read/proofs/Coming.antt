@@ -20,7 +20,7 @@ use Rattle.refusals.proofs.Lent.{refused-was, done-was}
 use Rattle.pack.proofs.Outcomes.{then-fine, then-refused, then-then, then-same, then-id}
 use Rattle.pack.proofs.Payloads.{plain-fits, open-fits}
 use Rattle.pack.proofs.Turns.{itemsOn, items-end, items-turn, inside-none, inside-some}
-use Rattle.pack_read.specs.Counts.{InsideTold}
+use Rattle.pack_read.specs.Steps.{InsideTold}
 
 -- the inside of a Sync, as the definition cuts it and as the code does
 abbrev pub insideRun : List ℕ → List ℕ → ℕ → ℕ → ℕ → Outcome (List Payload)

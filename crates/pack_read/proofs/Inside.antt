@@ -18,7 +18,7 @@ use Rattle.refusals.proofs.Lent.{answers, counts}
 use Rattle.pack.proofs.Outcomes.{then-fine, then-refused, then-then, then-same, then-id}
 use Rattle.pack.proofs.Payloads.{inner-within}
 use Rattle.pack.proofs.Turns.{innersOn, inners-end, inners-turn}
-use Rattle.pack_read.specs.Counts.{InsideTold}
+use Rattle.pack_read.specs.Steps.{InsideTold}
 
 abbrev after : {A : Type 0} → List A → List A → Outcome (List A)
 after xs ys = fine (xs ++ ys)

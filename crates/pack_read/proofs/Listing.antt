@@ -26,7 +26,8 @@ use Rattle.pack.proofs.Slots.{slots-count}
 use Rattle.pack_read.proofs.Inside.{WithinSync, SomeWithin, inside-begins, inside-ends, inside-stops, inside-on, inside-done, inside-refused}
 use Rattle.pack_read.proofs.Coming.{Coming, coming-begins, coming-plain, sync-on, inside-part, inside-enough}
 use Rattle.pack_slots.specs.Slots.{slotsIn}
-use Rattle.pack_read.specs.Shown.{InsideRead, shownBody, outlineOf, doneOf, assembled, BodyTold}
+use Rattle.pack_read.specs.Shown.{outlineOf, assembled}
+use Rattle.pack_read.specs.Steps.{InsideRead, shownBody, doneOf, BodyTold}
 use Rattle.pack_read.specs.declared.Outline.{Outline}
 use Rattle.pack_read.proofs.Slots.{innerSlot, slots-more, sets-padded, sets-snoc, sets-before}
 

@@ -18,7 +18,7 @@ use Rattle.pack.specs.Reading.{Read, valueStart, Opening, openingAt, readFrom, 
 use Rattle.pack.specs.Slots.{shown}
 use Rattle.refusals.proofs.Lent.{answers, refused-was, done-was}
 use Rattle.pack.proofs.Outcomes.{then-fine, then-refused, then-then}
-use Rattle.pack.proofs.Start.{start-small}
+use Rattle.pack.proofs.Turns.{start-small}
 use Rattle.pack_config.specs.First.{firstAt}
 use Rattle.pack_config.specs.Tables.{Filled, Knows, Empty, Tables, MapsRead}
 use Rattle.pack_config.specs.declared.First.the-variants as F
@@ -26,8 +26,8 @@ use Rattle.pack_config.proofs.Tables.{tables-none, column-is, column-filled}
 use Rattle.pack_config.proofs.Openings.{opens-without, opens-with, maps-short}
 use Rattle.pack.specs.declared.Reading.{Reading}
 use Rattle.pack_read.proofs.One.{check-is-read}
-use Rattle.pack_read.specs.Counts.{counted}
-use Rattle.pack_read.specs.Shown.{shownBody, outlineOf, Outlined, BodyTold, openedOf, Opens}
+use Rattle.pack_read.specs.Shown.{outlineOf, Outlined}
+use Rattle.pack_read.specs.Steps.{counted, shownBody, BodyTold, openedOf, Opens}
 use Rattle.pack_read.specs.declared.Outline.{Outline}
 use Rattle.pack_read.specs.declared.Opened.{Opened}
 use Rattle.pack_read.specs.declared.Opened.the-variants as O

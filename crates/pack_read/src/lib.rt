@@ -7,13 +7,13 @@ ghost use Rattle.refusals.specs.Outcomes.{answered, Outcome, andThen};
 ghost use Rattle.pack.specs.Items.{crcGood, syncHead, itemsFrom};
 ghost use Rattle.pack.specs.Reading.{openingAt, checked, valueStart, reading};
 ghost use Rattle.pack.specs.Slots.{blank, shown};
-ghost use Rattle.pack_read.specs.Counts.{counted, InsideTold};
+ghost use Rattle.pack_read.specs.Shown.{outlineOf, Outlined};
+ghost use Rattle.pack_read.specs.Steps.{counted, InsideTold, InsideRead, doneOf, BodyTold, Opens};
 ghost use Rattle.pack.specs.Fixed.{mappingCap};
 ghost use Rattle.pack.specs.Payloads.{payload};
 ghost use Rattle.pack.specs.Meaning.{stretchIn, valueOf, labelAt};
 ghost use Rattle.pack_config.specs.Tables.{Filled, Knows, Empty};
 ghost use Rattle.pack_slots.specs.Slots.{slotsIn};
-ghost use Rattle.pack_read.specs.Shown.{InsideRead, outlineOf, doneOf, Outlined, BodyTold, Opens};
 use pack::Found;
 use pack::Head;
 use pack::Item;
@@ -94,13 +94,14 @@ fn count_items(s: &[u8], from: usize) -> Answer
             } => {
                 let base = value_start + 4;
                 let end = value_start + value_len;
-                let inside = count_inside(&s[base..end], base, n + 1);
+                let used = n + 1;
+                let inside = count_inside(&s[base..end], base, used);
                 match inside {
                     Answer::Refused { why, place } => {
-                        return pack::refuse(why, place);
+                        return Answer::Refused { why, place };
                     }
                     Answer::Done(k) => {
-                        if k == n + 1 {
+                        if k == used {
                             return pack::refuse(Refusal::Sync, at);
                         }
                         n = k;
@@ -403,7 +404,7 @@ pub fn check(pack: &[u8]) -> Answer
     let mut known = [0u8; 128];
     let opened = open(pack, &mut tags, &mut places, &mut known);
     match opened {
-        Opened::Refused { why, place } => pack::refuse(why, place),
+        Opened::Refused { why, place } => Answer::Refused { why, place },
         Opened::From {
             offset: _,
             mapped: _,

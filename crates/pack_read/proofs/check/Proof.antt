@@ -1,4 +1,5 @@
 -- `pack_read::check` meets its contract: the opening is refused, or the items are counted.
+use mathlib.Core.Path.{refl}
 use Rattle.pack_read.proofs.Opening.{opened-small, checked-refused, checked-from}
 use borrow.Author.Needs.{needs}
 use Rattle.pack_read.proofs.check.Statement.{statement}
@@ -10,9 +11,6 @@ open-requires c κs = search needs
 enum-known-opened : tie.Need-enum-known-opened
 enum-known-opened c = search needs
 
-refuse-requires : tie.Need-refuse-requires
-refuse-requires c κs = search needs
-
 enum-known-opened-2 : tie.Need-enum-known-opened-2
 enum-known-opened-2 c = search needs
 
@@ -20,7 +18,7 @@ count-items-requires : tie.Need-count-items-requires
 count-items-requires c κs = opened-small _ (c .before .before .before .«open» .ensures) (c .before .opened2 .given .1)
 
 returns : tie.Need-returns
-returns c = checked-refused _ (c .before .before .before .before .«open» .ensures) (c .before .before .opened .given .1) (c .refuse .ensures)
+returns c = checked-refused _ (c .before .before .before .«open» .ensures) (c .before .opened .given .1) refl
 
 returns-2 : tie.Need-returns-2
 returns-2 c = checked-from _ (c .before .before .before .before .«open» .ensures) (c .before .before .opened2 .given .1) (c .count-items .ensures)
@@ -31,7 +29,6 @@ check-spec =
     (tie.spec
     open-requires
     enum-known-opened
-    refuse-requires
     enum-known-opened-2
     count-items-requires
     returns

@@ -1,5 +1,5 @@
 -- `pack_read::count_items` meets its contract. The loop keeps what is left (proofs/Coming), for any tags.
-use mathlib.Core.Path.{_≡_, sym, ap, _∙_}
+use mathlib.Core.Path.{_≡_, refl, sym, ap, _∙_}
 use native.Mathlib.Omega.{arith}
 use borrow.Author.Needs.{needs}
 use denote.Ref.{now}
@@ -7,7 +7,7 @@ use Rattle.refusals.specs.declared.Answer.the-variants as A
 use Rattle.pack.specs.Items.{itemAt}
 use Rattle.pack.specs.declared.Step.the-variants as S
 use Rattle.pack.proofs.Payloads.{plain-fits, open-fits, close-ends}
-use Rattle.pack_read.specs.Counts.{counted}
+use Rattle.pack_read.specs.Steps.{counted}
 use Rattle.refusals.proofs.Lent.{answers, counts}
 use Rattle.pack_read.proofs.Coming.{Counting, coming-begins, coming-ends, coming-bad, coming-good, coming-crc, coming-plain, sync-refused, sync-none, sync-on, inside-long, inside-part}
 use Prim.Native.Nat.{ℕ, _-_}
@@ -104,6 +104,9 @@ add-base c = let f = open-fits _ _ _ _ _ (opens (c .before)) in omega (arith, f 
 add-end : tie.Need-add-end Inv-loop μ-loop
 add-end c = let f = open-fits _ _ _ _ _ (opens (c .before)) in omega (arith, f .0 .inside, f .1, c .before .before .before .before .before .before .before .pre)
 
+add-used : tie.Need-add-used Inv-loop μ-loop
+add-used c = omega (arith, open-fits _ _ _ _ _ (opens (c .before)) .0 .room)
+
 sub-count-inside : tie.Need-sub-count-inside Inv-loop μ-loop
 sub-count-inside c = let f = open-fits _ _ _ _ _ (opens (c .before)) in omega (arith, f .1)
 
@@ -112,9 +115,6 @@ part-count-inside-start c = let f = open-fits _ _ _ _ _ (opens (c .before)) in o
 
 part-count-inside-end : tie.Need-part-count-inside-end Inv-loop μ-loop
 part-count-inside-end c = let f = open-fits _ _ _ _ _ (opens (c .before)) in omega (arith, f .0 .inside)
-
-add-count-inside : tie.Need-add-count-inside Inv-loop μ-loop
-add-count-inside c = let f = open-fits _ _ _ _ _ (opens (c .before .before)) in omega (arith, f .0 .room)
 
 count-inside-requires : tie.Need-count-inside-requires Inv-loop μ-loop
 count-inside-requires c κs =
@@ -126,29 +126,23 @@ count-inside-requires c κs =
 enum-known-inside : tie.Need-enum-known-inside Inv-loop μ-loop
 enum-known-inside c = search needs
 
-refuse-requires-3 : tie.Need-refuse-requires-3 Inv-loop μ-loop
-refuse-requires-3 c κs = search needs
-
 returns-4 : tie.Need-returns-4 Inv-loop μ-loop
 returns-4 c =
-    let k = c .before .before .before .before in
+    let k = c .before .before .before in
     let f = k .before .before .before in
-    λ tags. answers counted (sync-refused (f .before .before .before .before .loop .inv tags .coming) (f .before .before .before .loop-test .taken) (opens f) (k .count-inside .ensures tags) (c .before .before .inside .given .1)) (c .refuse3 .ensures)
+    λ tags. answers counted (sync-refused (f .before .before .before .before .loop .inv tags .coming) (f .before .before .before .loop-test .taken) (opens f) (k .count-inside .ensures tags) (c .before .inside .given .1)) refl
 
 enum-known-inside-2 : tie.Need-enum-known-inside-2 Inv-loop μ-loop
 enum-known-inside-2 c = search needs
 
-add-if2 : tie.Need-add-if2 Inv-loop μ-loop
-add-if2 c = let f = open-fits _ _ _ _ _ (opens (c .before .before .before .before .before .before)) in omega (arith, f .0 .room)
-
-refuse-requires-4 : tie.Need-refuse-requires-4 Inv-loop μ-loop
-refuse-requires-4 c κs = search needs
+refuse-requires-3 : tie.Need-refuse-requires-3 Inv-loop μ-loop
+refuse-requires-3 c κs = search needs
 
 returns-5 : tie.Need-returns-5 Inv-loop μ-loop
 returns-5 c =
     let k = c .before .before .before .before .before in
     let f = k .before .before .before in
-    λ tags. answers counted (sync-none (f .before .before .before .before .loop .inv tags .coming) (f .before .before .before .loop-test .taken) (opens f) (k .count-inside .ensures tags) (c .before .before .before .inside2 .given .1) (c .before .if2 .taken)) (c .refuse4 .ensures)
+    λ tags. answers counted (sync-none (f .before .before .before .before .loop .inv tags .coming) (f .before .before .before .loop-test .taken) (opens f) (k .count-inside .ensures tags) (c .before .before .before .inside2 .given .1) (c .before .if2 .taken)) (c .refuse3 .ensures)
 
 loop-less-2 : tie.Need-loop-less-2 Inv-loop μ-loop
 loop-less-2 c = let f = open-fits _ _ _ _ _ (opens (c .before .before .before .before .before .before .before)) in omega (arith, f .0 .later, f .0 .inside, c .before .before .before .before .before .before .before .before .before .before .loop-test .taken)
@@ -189,17 +183,15 @@ count-items-spec =
     enum-known-step-4
     add-base
     add-end
+    add-used
     sub-count-inside
     part-count-inside-start
     part-count-inside-end
-    add-count-inside
     count-inside-requires
     enum-known-inside
-    refuse-requires-3
     returns-4
     enum-known-inside-2
-    add-if2
-    refuse-requires-4
+    refuse-requires-3
     returns-5
     loop-less-2
     loop-again-2

@@ -5,7 +5,7 @@ use native.Mathlib.Omega.{arith}
 use denote.Ref.{now}
 use Rattle.refusals.specs.Outcomes.{fine}
 use Rattle.pack.specs.Reading.{valueStart}
-use Rattle.pack.proofs.Start.{start-small}
+use Rattle.pack.proofs.Turns.{start-small}
 use Rattle.pack_config.specs.First.{firstAt}
 use Rattle.pack_config.specs.declared.First.the-variants as F
 use Rattle.pack_config.proofs.Openings.{first-within}
