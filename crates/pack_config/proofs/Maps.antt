@@ -1,117 +1,33 @@
 -- What the loop over the mappings keeps: what is left, after those in the tables, gives the whole.
-use Prim.Native.Nat.{ℕ, zero, suc, _+_, _-_, _<_, _≤_}
+use Prim.Native.Nat.{ℕ, _+_, _-_, _<_, _≤_}
 use mathlib.Core.Path.{_≡_, refl, sym, ap, ap₂, _∙_, subst}
-use mathlib.Core.List.{List, [], _∷_, _++_, map, map-append}
+use mathlib.Core.List.{List, [], _∷_, _++_, map-append}
 use mathlib.Core.Bool.{Bool, true, false, _||_}
 use mathlib.Core.Logic.{_⊎_, inl, inr, ⊎-elim}
-use native.Mathlib.Nat.{zero-add}
-use native.Mathlib.Numerals.{add-one, sub-one}
 use native.Mathlib.Omega.{arith}
 use lib.Dec.{leb, eqb}
-use lib.ListN.{length, getD, set, take, drop, replicate, length-append, length-set, length-map, getD-replicate}
+use lib.ListN.{length, getD, set, take, drop, replicate, length-append, length-set, length-map}
 use lib.Seq.{getD-set-same, getD-set-other}
-use borrow.Author.Tests.{lt-ltb, le-ltb, le-leb, lt-leb, eq-eqb, ne-eqb, eqb-true, eqb-false}
+use borrow.Author.Tests.{eqb-true, eqb-false}
 use Rattle.runs.specs.Same.{same, among, listed}
 use Rattle.runs.proofs.Cases.{split, absurd-eq}
 use Rattle.runs.proofs.Same.{same-true}
+use Rattle.runs.proofs.Those.{each-append}
 use Rattle.refusals.specs.declared.Refusal.{Refusal}
 use Rattle.refusals.specs.declared.Refusal.the-variants as R
 use Rattle.refusals.specs.declared.Answer.{Answer}
 use Rattle.refusals.specs.declared.Answer.the-variants as A
-use Rattle.refusals.specs.Outcomes.{Outcome, fine, refused, andThen, answered}
+use Rattle.refusals.specs.Outcomes.{Outcome, fine, refused, andThen}
+use Rattle.refusals.proofs.Lent.{counts}
 use Rattle.numbers.specs.declared.TagRead.the-variants as T
 use Rattle.numbers.specs.Tags.{tagAt}
 use Rattle.numbers.proofs.Tags.{tag-next}
 use Rattle.labels.specs.Words.{digestOf}
 use Rattle.pack.specs.Fixed.{utilityLabels}
-use Rattle.pack.specs.Payloads.{nameFrom, nameOf}
-use Rattle.pack.specs.Config.{Mapping, tagsOf, labelsOf, clashes, mappingAt, mappingsFrom}
-use Rattle.pack.specs.Reading.{padded}
-use Rattle.pack_config.specs.Tables.{indexed, Knows, standing, Inside, Judging, clashing, Empty, Tables, Hold, MapsRead}
-use Rattle.pack.specs.declared.Name.the-variants.{Label}
-use Rattle.pack.proofs.Padded.{length-padded, take-padded, set-padded}
-
--- the definition at one mapping
-maps-end : (k : ℕ) (c : List ℕ) (place : ℕ) (seen : List Mapping) (at : ℕ) → length c ≤ at → mappingsFrom k c place seen at ≡ fine seen
-unfolding mappingsFrom
-maps-end zero c place seen at h = refl
-maps-end (suc k) c place seen at h = simp (le-ltb _ _ h)
-
-maps-refused : (k : ℕ) (c : List ℕ) (place : ℕ) (seen : List Mapping) (at : ℕ) {why : Refusal} {p : ℕ} → 0 < k → at < length c
-    → mappingAt c place seen at ≡ refused why p → mappingsFrom k c place seen at ≡ refused why p
-unfolding mappingsFrom andThen
-maps-refused zero c place seen at s h e = absurd (omega arith)
-maps-refused (suc k) c place seen at s h e = simp (lt-ltb _ _ h, e)
-
-maps-more : (k : ℕ) (c : List ℕ) (place : ℕ) (seen : List Mapping) (at : ℕ) (m : Mapping) → 0 < k → at < length c
-    → mappingAt c place seen at ≡ fine m → mappingsFrom k c place seen at ≡ mappingsFrom (k - 1) c place (seen ++ (m ∷ [])) (m .place + 16)
-unfolding mappingsFrom andThen
-maps-more zero c place seen at m s h e = absurd (omega arith)
-maps-more (suc k) c place seen at m s h e = simp (lt-ltb _ _ h, e, sub-one)
-
--- one mapping, test by test
-module _ (c : List ℕ) (place : ℕ) (seen : List Mapping) (at : ℕ) where
-  at-count : 32 ≤ length seen → mappingAt c place seen at ≡ refused R.Count place
-  unfolding mappingAt
-  at-count h = simp (le-leb _ _ h)
-
-  module _ (h : length seen < 32) where
-    at-bad : tagAt c at ≡ T.Bad → mappingAt c place seen at ≡ refused R.Tag place
-    unfolding mappingAt
-    at-bad e = simp (lt-leb _ _ h, e)
-
-    at-cut : tagAt c at ≡ T.Cut → mappingAt c place seen at ≡ refused R.Config place
-    unfolding mappingAt
-    at-cut e = simp (lt-leb _ _ h, e)
-
-    module _ (t n : ℕ) (e : tagAt c at ≡ T.Tag t n) where
-      at-short : length c - n < 16 → mappingAt c place seen at ≡ refused R.Config place
-      unfolding mappingAt
-      at-short g = simp (lt-leb _ _ h, e, lt-ltb _ _ g)
-
-      at-clash : 16 ≤ length c - n → clashes seen t (take 16 (drop n c)) ≡ true → mappingAt c place seen at ≡ refused R.Map place
-      unfolding mappingAt
-      at-clash g d = simp (lt-leb _ _ h, e, le-ltb _ _ g, d)
-
-      at-fine : 16 ≤ length c - n → clashes seen t (take 16 (drop n c)) ≡ false
-          → mappingAt c place seen at ≡ fine (record { tag = t; stands = take 16 (drop n c); place = n })
-      unfolding mappingAt
-      at-fine g d = simp (lt-leb _ _ h, e, le-ltb _ _ g, d)
-
--- one tag more: its name is its index, and no other tag's name changes
-name-new : (i : ℕ) (tags : List ℕ) (t : ℕ) → among t tags ≡ false → nameFrom i (tags ++ (t ∷ [])) t ≡ Label (i + length tags)
-unfolding nameFrom among
-name-new i [] t h = simp (eq-eqb t t refl) (ap Label (let z : i ≡ i + 0 = omega arith in z))
-name-new i (x ∷ tags) t h =
-    split (eqb x t) (λ e. let z : true ≡ false = simp e at h in absurd-eq (cc))
-    (λ e. simp e (name-new (suc i) tags t (simp e at h) ∙ ap Label (let z : suc i + length tags ≡ i + suc (length tags) = omega arith in z)))
-
-name-kept : (i : ℕ) (tags : List ℕ) (t u : ℕ) → (t ≡ u → ⊥) → nameFrom i (tags ++ (t ∷ [])) u ≡ nameFrom i tags u
-unfolding nameFrom
-name-kept i [] t u h = simp (ne-eqb t u h)
-name-kept i (x ∷ tags) t u h = split (eqb x u) (λ e. simp e) (λ e. simp e (name-kept (suc i) tags t u h))
-
-module _ (tags known : List ℕ) (t n : ℕ) (free : among t tags ≡ false) (is : length tags ≡ n) (g : Knows tags known) where
-  knows-short : t < 128 → length known ≡ 128 → Knows (tags ++ (t ∷ [])) (set known t (n + 1))
-  unfolding indexed
-  knows-short h l u b =
-      split (eqb t u)
-      (λ e.
-      let q : t ≡ u = eqb-true t u e in
-      subst (λ (w : ℕ). nameOf (tags ++ (t ∷ [])) w ≡ indexed (getD (set known t (n + 1)) w 0) w) q
-      (name-new 0 tags t free ∙ ap Label (zero-add (length tags) ∙ is)
-      ∙ sym (ap (λ (k : ℕ). indexed k t) (getD-set-same known t (n + 1) 0 (omega arith) ∙ add-one n))))
-      (λ e.
-      let d : t ≡ u → ⊥ = eqb-false t u e in
-      name-kept 0 tags t u d ∙ g u b ∙ sym (ap (λ (k : ℕ). indexed k u) (getD-set-other known t u (n + 1) 0 (λ q. d (sym q)))))
-
-  knows-long : 128 ≤ t → Knows (tags ++ (t ∷ [])) known
-  knows-long h u b = name-kept 0 tags t u (λ e. absurd (omega arith)) ∙ g u b
-
--- no tag is known at first
-knows-none : Knows [] (replicate 128 0)
-unfolding nameFrom indexed
-knows-none t h = sym (ap (λ (k : ℕ). indexed k t) (getD-replicate 128 t 0 0 h))
+use Rattle.pack.specs.Config.{Mapping, tagsOf, labelsOf, placesOf, clashes, mappingAt, mappingsFrom}
+use Rattle.pack.proofs.Turns.{mappings-end, mappings-turn, mapping-clash, mapping-fine}
+use Rattle.pack_config.specs.Tables.{Knows, standing, LabelsLie, Judging, Empty, Tables, MapsRead}
+use Rattle.pack_config.proofs.Tables.{knows-short, knows-long, tables-none, read-refused, column-is, column-filled, column-more}
 
 -- one label more
 listed-more : (l : List ℕ) (xs : List (List ℕ)) (x : List ℕ) → listed l (xs ++ (x ∷ [])) ≡ true → (listed l xs ≡ true) ⊎ (same x l ≡ true)
@@ -138,36 +54,16 @@ marked-none : Marked [] (replicate 251 0)
 unfolding listed
 marked-none l i = absurd-eq (cc)
 
--- no disjunct of what does not hold holds
-or-left : (a b : Bool) → (a || b) ≡ false → a ≡ false
-or-left true b h = h
-or-left false b h = refl
-
-or-right : (a b : Bool) → (a || b) ≡ false → b ≡ false
-or-right true b h = absurd-eq (cc)
-or-right false b h = h
-
 -- a mapping that stands has a tag that no earlier one has
-free : (seen : List Mapping) (t : ℕ) (label : List ℕ) → clashes seen t label ≡ false → among t (tagsOf seen) ≡ false
+third : (a b c d : Bool) → (a || (b || (c || d))) ≡ false → c ≡ false
+third true b c d h = absurd-eq (cc)
+third false true c d h = absurd-eq (cc)
+third false false true d h = h
+third false false false d h = refl
+
+free : (tags : List ℕ) (labels : List (List ℕ)) (t : ℕ) (label : List ℕ) → clashes tags labels t label ≡ false → among t tags ≡ false
 unfolding clashes
-free seen t label h =
-    let later = listed label (labelsOf seen) in
-    or-left (among t (tagsOf seen)) later
-    (or-right (listed label utilityLabels) (among t (tagsOf seen) || later) (or-right (leb t 3) (listed label utilityLabels || (among t (tagsOf seen) || later)) h))
-
-abbrev pub placesOf : List Mapping → List ℕ
-placesOf ms = map (λ (m : Mapping). m .place) ms
-
-inside-more : (c places : List ℕ) (p : ℕ) → Inside c places → p + 16 ≤ length c → Inside c (places ++ (p ∷ []))
-inside-more c [] p g h zero i = h
-inside-more c [] p g h (suc k) i = absurd (omega arith)
-inside-more c (x ∷ places) p g h zero i = g 0 (omega arith)
-inside-more c (x ∷ places) p g h (suc k) i = inside-more c places p (λ j b. g (suc j) (omega arith)) h k (omega arith)
-
--- a refusal says nothing of the tables
-pub read-refused : {o : Outcome (List Mapping)} {why : Refusal} {p : ℕ} {r : Answer} {us vs ws : List ℕ} → o ≡ refused why p → r ≡ A.Refused why p → MapsRead o r us vs ws
-unfolding Hold answered
-read-refused {o} {why} {p} {r} {us} {vs} {ws} e q = subst (λ (x : Outcome (List Mapping)). MapsRead x r us vs ws) (sym e) (record { count = q; tables = tt })
+free tags labels t label h = third (leb t 3) (listed label utilityLabels) (among t tags) (listed label labels) h
 
 pub record Sofar (c : List ℕ) (place from k : ℕ) (tags places known marks : List ℕ) (n at : ℕ) : Type 0 where
   pub ms : List Mapping
@@ -175,15 +71,12 @@ pub record Sofar (c : List ℕ) (place from k : ℕ) (tags places known marks : 
   pub long : length ms ≡ n
   pub tables : Tables ms tags places known
   pub stand : labelsOf ms ≡ standing c (placesOf ms)
-  pub inside : Inside c (placesOf ms)
+  pub lie : LabelsLie c (placesOf ms)
   pub marked : Marked (labelsOf ms) marks
   pub indexes : length known ≡ 128
   pub digests : length marks ≡ 251
   pub enough : length c ≤ at + fuel
   pub same : mappingsFrom fuel c place ms at ≡ mappingsFrom k c place [] from
-
-pub tables-none : {tags places known : List ℕ} → Empty tags places known → Tables [] tags places known
-tables-none e = record { tagged = e .tagged; placed = e .placed; index = subst (Knows []) (sym (e .index)) knows-none; few = omega arith }
 
 pub sofar-begins : (c : List ℕ) (place from k : ℕ) {tags places known : List ℕ} → Empty tags places known → length c ≤ from + k
     → Sofar c place from k tags places known (replicate 251 0) 0 from
@@ -193,7 +86,7 @@ sofar-begins c place from k {tags} {places} {known} e h = record {
   long = refl;
   tables = tables-none e;
   stand = refl;
-  inside = λ i b. absurd (omega arith);
+  lie = tt;
   marked = marked-none;
   indexes = ap length (e .index);
   digests = refl;
@@ -204,10 +97,10 @@ sofar-begins c place from k {tags} {places} {known} e h = record {
 module _ {c : List ℕ} {place from k : ℕ} {tags places known marks : List ℕ} {n at : ℕ} (g : Sofar c place from k tags places known marks n at) where
   -- the first n places of the tables hold the mappings
   tags-are : take n tags ≡ tagsOf (g .ms)
-  tags-are = ap (take n) (g .tables .tagged) ∙ take-padded 32 0 (tagsOf (g .ms)) n (length-map (g .ms) (λ (m : Mapping). m .tag) ∙ g .long)
+  tags-are = column-is (g .ms) (λ (m : Mapping). m .tag) (g .tables .tagged) (g .long)
 
   places-are : take n places ≡ placesOf (g .ms)
-  places-are = ap (take n) (g .tables .placed) ∙ take-padded 32 0 (placesOf (g .ms)) n (length-map (g .ms) (λ (m : Mapping). m .place) ∙ g .long)
+  places-are = column-is (g .ms) (λ (m : Mapping). m .place) (g .tables .placed) (g .long)
 
   labels-are : standing c (take n places) ≡ labelsOf (g .ms)
   labels-are = ap (standing c) places-are ∙ sym (g .stand)
@@ -215,18 +108,12 @@ module _ {c : List ℕ} {place from k : ℕ} {tags places known marks : List ℕ
   few : n ≤ 32
   few = omega (arith, g .long, g .tables .few)
 
-  tags-long : length tags ≡ 32
-  tags-long = ap length (g .tables .tagged) ∙ length-padded 32 0 (tagsOf (g .ms)) n (length-map (g .ms) (λ (m : Mapping). m .tag) ∙ g .long) few
-
-  places-long : length places ≡ 32
-  places-long = ap length (g .tables .placed) ∙ length-padded 32 0 (placesOf (g .ms)) n (length-map (g .ms) (λ (m : Mapping). m .place) ∙ g .long) few
-
   pub sofar-judging : (next : ℕ) {m d : ℕ} → next + 16 ≤ length c → d ≡ digestOf (take 16 (drop next c)) → m ≡ getD marks d 0 → Judging c tags places known n next m
   sofar-judging next {m} {d} h e r = record {
-    tagged = record { few = few; there = omega (arith, few, tags-long) };
-    placed = record { few = few; there = omega (arith, few, places-long) };
+    tagged = column-filled (g .ms) (λ (x : Mapping). x .tag) (g .tables .tagged) (g .long) few;
+    placed = column-filled (g .ms) (λ (x : Mapping). x .place) (g .tables .placed) (g .long) few;
     index = subst (λ (l : List ℕ). Knows l known) (sym tags-are) (g .tables .index);
-    inside = subst (Inside c) (sym places-are) (g .inside);
+    lie = subst (LabelsLie c) (sym places-are) (g .lie);
     label = h;
     unmarked = λ z.
         split (listed (take 16 (drop next c)) (standing c (take n places)))
@@ -239,96 +126,81 @@ module _ {c : List ℕ} {place from k : ℕ} {tags places known marks : List ℕ
   }
 
   -- MAP as the tables tell it is MAP
-  clash-is : (t : ℕ) (label : List ℕ) {r : Bool} → r ≡ clashing (take n tags) (standing c (take n places)) t label → clashes (g .ms) t label ≡ r
-  unfolding clashes clashing
-  clash-is t label e = sym (e ∙ ap₂ (λ (a : List ℕ) (b : List (List ℕ)). clashing a b t label) tags-are labels-are)
+  clash-is : (t : ℕ) (label : List ℕ) {r : Bool} → r ≡ clashes (take n tags) (standing c (take n places)) t label → clashes (tagsOf (g .ms)) (labelsOf (g .ms)) t label ≡ r
+  clash-is t label e = sym (e ∙ ap₂ (λ (a : List ℕ) (b : List (List ℕ)). clashes a b t label) tags-are labels-are)
 
   pub sofar-ends : length c ≤ at → MapsRead (mappingsFrom k c place [] from) (A.Done n) tags places known
-  unfolding Hold answered
   sofar-ends h =
-      let e : fine (g .ms) ≡ mappingsFrom k c place [] from = sym (maps-end (g .fuel) c place (g .ms) at h) ∙ g .same in
-      subst (λ (o : Outcome (List Mapping)). MapsRead o (A.Done n) tags places known) e (record { count = ap A.Done (sym (g .long)); tables = g .tables })
+      let e : mappingsFrom k c place [] from ≡ fine (g .ms) = sym (g .same) ∙ mappings-end c place (g .ms) at (g .fuel) h in
+      record {
+        count = counts length e (ap A.Done (sym (g .long)));
+        tables = λ ms d. let same : g .ms ≡ ms = cc in subst (λ (x : List Mapping). Tables x tags places known) same (g .tables);
+      }
 
   module _ (h : at < length c) where
-    some : 0 < g .fuel
-    some = omega (arith, g .enough)
+    turn : {o : Outcome Mapping} → mappingAt c place (g .ms) at ≡ o
+        → mappingsFrom (g .fuel) c place (g .ms) at ≡ andThen o (λ m. mappingsFrom (g .fuel - 1) c place (g .ms ++ (m ∷ [])) (m .place + 16))
+    turn e = mappings-turn c place (g .ms) at (g .fuel - 1) (omega (arith, g .enough)) h e
 
     -- the mapping at this place is refused, whatever the tables hold then
-    stopped : {why : Refusal} {p : ℕ} {r : Answer} {us vs ws : List ℕ} → mappingAt c place (g .ms) at ≡ refused why p → r ≡ A.Refused why p
+    pub sofar-stops : {why : Refusal} {p : ℕ} {r : Answer} {us vs ws : List ℕ} → mappingAt c place (g .ms) at ≡ refused why p → r ≡ A.Refused why p
         → MapsRead (mappingsFrom k c place [] from) r us vs ws
-    stopped e q = read-refused (sym (g .same) ∙ maps-refused (g .fuel) c place (g .ms) at some h e) q
-
-    pub sofar-count : {r : Answer} {us vs ws : List ℕ} → 32 ≤ n → r ≡ A.Refused R.Count place → MapsRead (mappingsFrom k c place [] from) r us vs ws
-    sofar-count b q = stopped (at-count c place (g .ms) at (omega (arith, g .long))) q
+    unfolding andThen
+    sofar-stops e q = read-refused (sym (g .same) ∙ turn e) q
 
     module _ (b : n < 32) where
-      room : length (g .ms) < 32
+      pub room : length (g .ms) < 32
       room = omega (arith, g .long)
 
-      pub sofar-bad : {r : Answer} {us vs ws : List ℕ} → tagAt c at ≡ T.Bad → r ≡ A.Refused R.Tag place → MapsRead (mappingsFrom k c place [] from) r us vs ws
-      sofar-bad e q = stopped (at-bad c place (g .ms) at room e) q
+      module _ {t m : ℕ} (e : tagAt c at ≡ T.Tag t m) (d : 16 ≤ length c - m) {r : Bool} (f : r ≡ clashes (take n tags) (standing c (take n places)) t (take 16 (drop m c))) where
+        pub sofar-clash : r ≡ true → mappingAt c place (g .ms) at ≡ refused R.Map place
+        sofar-clash i = mapping-clash c place (g .ms) at room t m e d (clash-is t (take 16 (drop m c)) f ∙ i)
 
-      pub sofar-cut : {r : Answer} {us vs ws : List ℕ} → tagAt c at ≡ T.Cut → r ≡ A.Refused R.Config place → MapsRead (mappingsFrom k c place [] from) r us vs ws
-      sofar-cut e q = stopped (at-cut c place (g .ms) at room e) q
+        -- it stands, and goes into the tables
+        abbrev new : Mapping
+        new = record { tag = t; stands = take 16 (drop m c); place = m }
 
-      module _ {t m : ℕ} (e : tagAt c at ≡ T.Tag t m) where
-        pub sofar-short : {r : Answer} {us vs ws : List ℕ} → length c - m < 16 → r ≡ A.Refused R.Config place → MapsRead (mappingsFrom k c place [] from) r us vs ws
-        sofar-short d q = stopped (at-short c place (g .ms) at room t m e d) q
+        stood : r ≡ false → clashes (tagsOf (g .ms)) (labelsOf (g .ms)) t (take 16 (drop m c)) ≡ false
+        stood i = clash-is t (take 16 (drop m c)) f ∙ i
 
-        module _ (d : 16 ≤ length c - m) {r : Bool} (f : r ≡ clashing (take n tags) (standing c (take n places)) t (take 16 (drop m c))) where
-          pub sofar-clash : {a : Answer} {us vs ws : List ℕ} → r ≡ true → a ≡ A.Refused R.Map place → MapsRead (mappingsFrom k c place [] from) a us vs ws
-          sofar-clash i q = stopped (at-clash c place (g .ms) at room t m e d (clash-is t (take 16 (drop m c)) f ∙ i)) q
+        more : {ws : List ℕ} {x : ℕ} → r ≡ false → x ≡ digestOf (take 16 (drop m c)) → x < 251 → length ws ≡ 128 → Knows (tagsOf (g .ms) ++ (t ∷ [])) ws
+            → Sofar c place from k (set tags n t) (set places n m) ws (set marks x 1) (n + 1) (m + 16)
+        unfolding andThen
+        more {ws} {x} i y z v w =
+            let fits : m + 16 ≤ length c = omega arith in
+            let later = tag-next c at t m e in
+            record {
+              ms = g .ms ++ (new ∷ []);
+              fuel = g .fuel - 1;
+              long = omega (arith, length-append (g .ms) (new ∷ []), g .long);
+              tables = record {
+                tagged = column-more (g .ms) (λ (q : Mapping). q .tag) (g .tables .tagged) (g .long) new b;
+                placed = column-more (g .ms) (λ (q : Mapping). q .place) (g .tables .placed) (g .long) new b;
+                index = subst (λ (l : List ℕ). Knows l ws) (sym (map-append (λ (q : Mapping). q .tag) (g .ms) (new ∷ []))) w;
+                few = omega (arith, length-append (g .ms) (new ∷ []), g .long);
+              };
+              stand =
+                  map-append (λ (q : Mapping). q .stands) (g .ms) (new ∷ [])
+                  ∙ ap (λ (l : List (List ℕ)). l ++ (take 16 (drop m c) ∷ [])) (g .stand)
+                  ∙ sym (ap (standing c) (map-append (λ (q : Mapping). q .place) (g .ms) (new ∷ [])) ∙ map-append (λ (p : ℕ). take 16 (drop p c)) (placesOf (g .ms)) (m ∷ []));
+              lie = subst (LabelsLie c) (sym (map-append (λ (q : Mapping). q .place) (g .ms) (new ∷ []))) (each-append (λ (p : ℕ). p + 16 ≤ length c) (placesOf (g .ms)) (m ∷ []) (g .lie) (fits, tt));
+              marked =
+                  subst (λ (l : List (List ℕ)). Marked l (set marks x 1)) (sym (map-append (λ (q : Mapping). q .stands) (g .ms) (new ∷ [])))
+                  (marked-more (labelsOf (g .ms)) marks (take 16 (drop m c)) x y (omega (arith, g .digests)) (g .marked));
+              indexes = v;
+              digests = length-set marks x 1 ∙ g .digests;
+              enough = omega (arith, g .enough);
+              same = sym (turn (mapping-fine c place (g .ms) at room t m e d (stood i))) ∙ g .same;
+            }
 
-          -- it stands, and goes into the tables
-          abbrev new : Mapping
-          new = record { tag = t; stands = take 16 (drop m c); place = m }
+        pub sofar-known : {x : ℕ} → r ≡ false → x ≡ digestOf (take 16 (drop m c)) → x < 251 → t < 128
+            → Sofar c place from k (set tags n t) (set places n m) (set known t (n + 1)) (set marks x 1) (n + 1) (m + 16)
+        sofar-known i y z l =
+            more i y z (length-set known t (n + 1) ∙ g .indexes)
+            (knows-short (tagsOf (g .ms)) known t n (free (tagsOf (g .ms)) (labelsOf (g .ms)) t (take 16 (drop m c)) (stood i)) (length-map (g .ms) (λ (q : Mapping). q .tag) ∙ g .long) (g .tables .index) l (g .indexes))
 
-          stood : r ≡ false → clashes (g .ms) t (take 16 (drop m c)) ≡ false
-          stood i = clash-is t (take 16 (drop m c)) f ∙ i
-
-          more : {ws : List ℕ} {x : ℕ} → r ≡ false → x ≡ digestOf (take 16 (drop m c)) → x < 251 → length ws ≡ 128 → Knows (tagsOf (g .ms) ++ (t ∷ [])) ws
-              → Sofar c place from k (set tags n t) (set places n m) ws (set marks x 1) (n + 1) (m + 16)
-          more {ws} {x} i y z v w =
-              let fits : m + 16 ≤ length c = omega arith in
-              let later = tag-next c at t m e in
-              record {
-                ms = g .ms ++ (new ∷ []);
-                fuel = g .fuel - 1;
-                long = omega (arith, length-append (g .ms) (new ∷ []), g .long);
-                tables = record {
-                  tagged =
-                      ap (λ (l : List ℕ). set l n t) (g .tables .tagged)
-                      ∙ set-padded 32 0 (tagsOf (g .ms)) n (length-map (g .ms) (λ (q : Mapping). q .tag) ∙ g .long) t b
-                      ∙ ap (padded 32 0) (sym (map-append (λ (q : Mapping). q .tag) (g .ms) (new ∷ [])));
-                  placed =
-                      ap (λ (l : List ℕ). set l n m) (g .tables .placed)
-                      ∙ set-padded 32 0 (placesOf (g .ms)) n (length-map (g .ms) (λ (q : Mapping). q .place) ∙ g .long) m b
-                      ∙ ap (padded 32 0) (sym (map-append (λ (q : Mapping). q .place) (g .ms) (new ∷ [])));
-                  index = subst (λ (l : List ℕ). Knows l ws) (sym (map-append (λ (q : Mapping). q .tag) (g .ms) (new ∷ []))) w;
-                  few = omega (arith, length-append (g .ms) (new ∷ []), g .long);
-                };
-                stand =
-                    map-append (λ (q : Mapping). q .stands) (g .ms) (new ∷ [])
-                    ∙ ap (λ (l : List (List ℕ)). l ++ (take 16 (drop m c) ∷ [])) (g .stand)
-                    ∙ sym (ap (standing c) (map-append (λ (q : Mapping). q .place) (g .ms) (new ∷ [])) ∙ map-append (λ (p : ℕ). take 16 (drop p c)) (placesOf (g .ms)) (m ∷ []));
-                inside = subst (Inside c) (sym (map-append (λ (q : Mapping). q .place) (g .ms) (new ∷ []))) (inside-more c (placesOf (g .ms)) m (g .inside) fits);
-                marked =
-                    subst (λ (l : List (List ℕ)). Marked l (set marks x 1)) (sym (map-append (λ (q : Mapping). q .stands) (g .ms) (new ∷ [])))
-                    (marked-more (labelsOf (g .ms)) marks (take 16 (drop m c)) x y (omega (arith, g .digests)) (g .marked));
-                indexes = v;
-                digests = length-set marks x 1 ∙ g .digests;
-                enough = omega (arith, g .enough);
-                same = sym (maps-more (g .fuel) c place (g .ms) at new some h (at-fine c place (g .ms) at room t m e d (stood i))) ∙ g .same;
-              }
-
-          pub sofar-known : {x : ℕ} → r ≡ false → x ≡ digestOf (take 16 (drop m c)) → x < 251 → t < 128
-              → Sofar c place from k (set tags n t) (set places n m) (set known t (n + 1)) (set marks x 1) (n + 1) (m + 16)
-          sofar-known i y z l =
-              more i y z (length-set known t (n + 1) ∙ g .indexes)
-              (knows-short (tagsOf (g .ms)) known t n (free (g .ms) t (take 16 (drop m c)) (stood i)) (length-map (g .ms) (λ (q : Mapping). q .tag) ∙ g .long) (g .tables .index) l (g .indexes))
-
-          pub sofar-more : {x : ℕ} → r ≡ false → x ≡ digestOf (take 16 (drop m c)) → x < 251 → 128 ≤ t
-              → Sofar c place from k (set tags n t) (set places n m) known (set marks x 1) (n + 1) (m + 16)
-          sofar-more i y z l =
-              more i y z (g .indexes)
-              (knows-long (tagsOf (g .ms)) known t n (free (g .ms) t (take 16 (drop m c)) (stood i)) (length-map (g .ms) (λ (q : Mapping). q .tag) ∙ g .long) (g .tables .index) l)
+        pub sofar-more : {x : ℕ} → r ≡ false → x ≡ digestOf (take 16 (drop m c)) → x < 251 → 128 ≤ t
+            → Sofar c place from k (set tags n t) (set places n m) known (set marks x 1) (n + 1) (m + 16)
+        sofar-more i y z l =
+            more i y z (g .indexes)
+            (knows-long (tagsOf (g .ms)) known t n (free (tagsOf (g .ms)) (labelsOf (g .ms)) t (take 16 (drop m c)) (stood i)) (length-map (g .ms) (λ (q : Mapping). q .tag) ∙ g .long) (g .tables .index) l)

@@ -84,7 +84,7 @@ pub data ItemsRead (s tags : List ℕ) : ℕ → ℕ → List Part → Bool → 
       → ItemsRead s tags (v + l) (used + 1) parts mark → ItemsRead s tags at used (one (payload tags at t v l) ∷ parts) mark
   nextSync : {at used : ℕ} {parts : List Part} {mark : Bool} (v l : ℕ) (xs : List Payload) → payloadAt s at ≡ Whole 2 v l → 4 ≤ l → used < itemCap → 0 < length xs
       → InnersRead (take (l - 4) (drop (v + 4) s)) tags (v + 4) 0 (used + 1) xs
-      → ItemsRead s tags (v + l) (used + 1 + length xs) parts mark → ItemsRead s tags at used (many (syncHead s at v l xs) xs ∷ parts) mark
+      → ItemsRead s tags (v + l) (used + 1 + length xs) parts mark → ItemsRead s tags at used (many (syncHead s at v l (length xs)) xs ∷ parts) mark
 
 some : (at : ℕ) (xs : List Payload) → 0 < length xs → someInside at xs ≡ fine xs
 unfolding someInside
@@ -142,7 +142,7 @@ module _ (s tags : List ℕ) where
     turn-sync : (v l : ℕ) → payloadAt s at ≡ Whole 2 v l → 4 ≤ l → used < itemCap
         → itemsFrom (suc k) s tags at used
         ≡ andThen (insideOf s tags at v l used)
-        (λ xs. andThen (itemsFrom k s tags (v + l) (used + 1 + length xs)) (with (many (syncHead s at v l xs) xs)))
+        (λ xs. andThen (itemsFrom k s tags (v + l) (used + 1 + length xs)) (with (many (syncHead s at v l (length xs)) xs)))
     unfolding itemsFrom itemAt judged
     turn-sync v l e h u = simp (lt-ltb _ _ i, e, le-ltb _ _ h, lt-leb _ _ u)
 
@@ -163,8 +163,8 @@ module _ (s tags : List ℕ) where
       let q = take (l - 4) (drop (v + 4) s) in
       let inside : insideOf s tags at v l used ≡ fine xs = onward (someInside at) (inners-run q tags (v + 4) l ir (simp length-take (omega arith))) ∙ some at xs n in
       turn-sync k at used (omega arith) v l e h u
-      ∙ onward (λ ys. andThen (itemsFrom k s tags (v + l) (used + 1 + length ys)) (with (many (syncHead s at v l ys) ys))) inside
-      ∙ onward (with (many (syncHead s at v l xs) xs)) (items-run k r (omega arith))
+      ∙ onward (λ ys. andThen (itemsFrom k s tags (v + l) (used + 1 + length ys)) (with (many (syncHead s at v l (length ys)) ys))) inside
+      ∙ onward (with (many (syncHead s at v l (length xs)) xs)) (items-run k r (omega arith))
 
   -- an item of an accepted pack, where what follows it is known
   module _ (k at used : ℕ) (b : Body) (bytes : Bytes s) (inside : at < length s) (h : itemsFrom (suc k) s tags at used ≡ fine b)
@@ -184,15 +184,15 @@ module _ (s tags : List ℕ) where
         let x = payload-next s at 2 v l e in
         let q = take (l - 4) (drop (v + 4) s) in
         let i = after (insideOf s tags at v l used)
-        (λ ys. andThen (itemsFrom k s tags (v + l) (used + 1 + length ys)) (with (many (syncHead s at v l ys) ys)))
+        (λ ys. andThen (itemsFrom k s tags (v + l) (used + 1 + length ys)) (with (many (syncHead s at v l (length ys)) ys)))
         (sym (turn-sync k at used inside v l e long room) ∙ h) in
         let ys = i .0 in
         let j = after (innersFrom l q tags (v + 4) 0 (used + 1)) (someInside at) (i .1) in
         let n = some-of at (j .0) ys (j .2) in
         let inner = inners-of q tags (v + 4) l 0 (used + 1) ys (simp length-take (omega arith)) (j .1 ∙ ap fine (n .1)) in
-        let r = after (itemsFrom k s tags (v + l) (used + 1 + length ys)) (with (many (syncHead s at v l ys) ys)) (i .2) in
+        let r = after (itemsFrom k s tags (v + l) (used + 1 + length ys)) (with (many (syncHead s at v l (length ys)) ys)) (i .2) in
         let w = r .2 in
-        let z : bodyOf (many (syncHead s at v l ys) ys ∷ r .0 .parts) (r .0 .crc) ≡ b = cc in
+        let z : bodyOf (many (syncHead s at v l (length ys)) ys ∷ r .0 .parts) (r .0 .crc) ≡ b = cc in
         is z
         (nextSync {parts = r .0 .parts} {mark = r .0 .crc} v l ys e long room (n .0) inner (rest (v + l) (used + 1 + length ys) (r .0) (omega arith) (r .1)))
 

@@ -26,7 +26,7 @@ use Rattle.pack.specs.Fixed.{key, packCap, mappingCap}
 use Rattle.pack.specs.declared.Found.{Found}
 use Rattle.pack.specs.declared.Found.the-variants.{Whole, Wrong}
 use Rattle.pack.specs.Payloads.{payloadAt}
-use Rattle.pack.specs.Config.{Mapping, tagsOf, clashes, mappingAt, mappingsFrom}
+use Rattle.pack.specs.Config.{Mapping, tagsOf, labelsOf, clashes, mappingAt, mappingsFrom, configMaps}
 use Rattle.pack.specs.Items.{itemsFrom}
 use Rattle.pack.specs.Reading.{Read, Opening, valueStart, configOf, openingAt, readFrom, reading}
 use Rattle.pack_layout.proofs.Outcomes.{after, onward}
@@ -40,7 +40,7 @@ mappingOf c t n = record { tag = t; stands = take 16 (drop n c); place = n }
 pub data MappingsRead (c : List ℕ) : ℕ → List Mapping → List Mapping → Type 0 where
   noneMapped : {at : ℕ} {seen : List Mapping} → length c ≤ at → MappingsRead c at seen []
   nextMapped : {at : ℕ} {seen more : List Mapping} (t n : ℕ) → length seen < mappingCap → tagAt c at ≡ T.Tag t n → n + 16 ≤ length c
-      → clashes seen t (take 16 (drop n c)) ≡ false
+      → clashes (tagsOf seen) (labelsOf seen) t (take 16 (drop n c)) ≡ false
       → MappingsRead c (n + 16) (seen ++ (mappingOf c t n ∷ [])) more → MappingsRead c at seen (mappingOf c t n ∷ more)
 
 -- a mapping that is read
@@ -50,7 +50,7 @@ record MappingRead (c : List ℕ) (seen : List Mapping) (at : ℕ) (m : Mapping)
   few : length seen < mappingCap
   tag : tagAt c at ≡ T.Tag t n
   room : n + 16 ≤ length c
-  apart : clashes seen t (take 16 (drop n c)) ≡ false
+  apart : clashes (tagsOf seen) (labelsOf seen) t (take 16 (drop n c)) ≡ false
   is : mappingOf c t n ≡ m
 
 -- mappings that are read after those of `seen`
@@ -71,7 +71,7 @@ one-more {c} {seen} d r =
 
 module _ (c : List ℕ) (place : ℕ) where
   mapping-is : (seen : List Mapping) (at t n : ℕ) → length seen < mappingCap → tagAt c at ≡ T.Tag t n → n + 16 ≤ length c
-      → clashes seen t (take 16 (drop n c)) ≡ false → mappingAt c place seen at ≡ fine (mappingOf c t n)
+      → clashes (tagsOf seen) (labelsOf seen) t (take 16 (drop n c)) ≡ false → mappingAt c place seen at ≡ fine (mappingOf c t n)
   unfolding mappingAt
   mapping-is seen at t n u e g a = let h : 16 ≤ length c - n = omega arith in simp (lt-leb _ _ u, e, le-ltb _ _ h, a)
 
@@ -88,7 +88,7 @@ module _ (c : List ℕ) (place : ℕ) where
       tagged (T.Tag t n) e a =
           split (ltb (length c - n) 16)
           (λ b. let i : refused R.Config place ≡ fine m = simp (a, e, b) at h in absurd-eq (cc))
-          (λ b. split (clashes seen t (take 16 (drop n c)))
+          (λ b. split (clashes (tagsOf seen) (labelsOf seen) t (take 16 (drop n c)))
           (λ d. let i : refused R.Map place ≡ fine m = simp (a, e, b, d) at h in absurd-eq (cc))
           (λ d. let i : fine (mappingOf c t n) ≡ fine m = simp (a, e, b, d) at h in
           let x : 16 ≤ length c - n = ltb-false _ _ b in
@@ -140,13 +140,13 @@ opening o ms next = record { offset = o; mappings = ms; next = next }
 
 module _ (s : List ℕ) (at : ℕ) where
   config-is : (v l : ℕ) (ms : List Mapping) → 2 ≤ l → MappingsRead (take (v + l) s) (v + 2) [] ms → configOf s at v l ≡ fine (opening (bigAt s v 2) ms (v + l))
-  unfolding configOf
+  unfolding configMaps andThen
   config-is v l ms h r =
       simp (le-ltb _ _ h)
       (onward (λ ms. fine (opening (bigAt s v 2) ms (v + l))) (mappings-run (take (v + l) s) at l r (simp length-take (omega arith))))
 
   config-of : (v l : ℕ) (o : Opening) → payloadAt s at ≡ Whole 1 v l → configOf s at v l ≡ fine o → OpeningRead s at (o .offset) (o .mappings) (o .next)
-  unfolding configOf
+  unfolding configMaps andThen
   config-of v l o e h =
       split (ltb l 2)
       (λ a. let i : refused R.Config at ≡ fine o = simp a at h in absurd-eq (cc))

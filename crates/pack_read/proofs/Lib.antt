@@ -1,8 +1,5 @@
-pub mod Outcomes
 pub mod Inside
 pub mod Coming
-mod Counting
-mod Whole
 pub mod One
 pub mod Outlines
 mod Slots

@@ -7,7 +7,8 @@ use Rattle.refusals.specs.declared.Answer.{Answer}
 use Rattle.refusals.specs.declared.Answer.the-variants as A
 use Rattle.refusals.specs.Outcomes.{Outcome, fine, refused, answered}
 use Rattle.pack.specs.Items.{countOf}
-use Rattle.pack.specs.Reading.{Read, reading, checked, shown}
+use Rattle.pack.specs.Reading.{Read, reading, checked}
+use Rattle.pack.specs.Slots.{shown}
 use Rattle.pack.specs.Meaning.{valueOf, labelAt}
 use Rattle.pack.specs.declared.Payload.{Payload}
 use Rattle.pack.specs.declared.Reading.{Reading}

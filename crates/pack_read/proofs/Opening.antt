@@ -3,27 +3,31 @@ use Prim.Native.Nat.{ℕ, _+_, _≤_}
 use mathlib.Core.Path.{_≡_, refl, sym, ap, ap₂, _∙_, subst}
 use mathlib.Core.List.{List}
 use native.Mathlib.Omega.{arith}
-use lib.ListN.{length, take, replicate, length-map}
+use lib.ListN.{length, take, replicate}
 use lib.Dec.{ltb}
 use borrow.Author.Tests.{ltb-true, ltb-false}
 use Rattle.runs.proofs.Cases.{split, absurd-eq}
 use Rattle.refusals.specs.declared.Refusal.{Refusal}
 use Rattle.refusals.specs.declared.Answer.{Answer}
 use Rattle.refusals.specs.declared.Answer.the-variants as A
-use Rattle.refusals.specs.Outcomes.{Outcome, fine, refused, andThen}
+use Rattle.refusals.specs.Outcomes.{Outcome, fine, refused, andThen, answered}
 use Rattle.numbers.specs.Big.{bigAt}
-use Rattle.pack.specs.Config.{Mapping, tagsOf}
+use Rattle.pack.specs.Config.{Mapping, tagsOf, configMaps}
 use Rattle.pack.specs.Items.{Body, itemsFrom}
-use Rattle.pack.specs.Reading.{Read, valueStart, Opening, openingAt, readFrom, reading, shown}
-use Rattle.pack.proofs.Padded.{take-padded, length-padded}
-use Rattle.pack.proofs.Start.{start-small}
+use Rattle.pack.specs.Reading.{Read, valueStart, Opening, openingAt, readFrom, reading, checked}
+use Rattle.pack.specs.Slots.{shown}
+use Rattle.refusals.proofs.Lent.{answers, refused-was, done-was}
+use Rattle.pack.proofs.Outcomes.{then-fine, then-refused, then-then}
+use Rattle.pack.proofs.Turns.{start-small}
 use Rattle.pack_config.specs.First.{firstAt}
-use Rattle.pack_config.specs.Tables.{Filled, Knows, Empty, Tables, Hold, MapsRead, configMaps}
+use Rattle.pack_config.specs.Tables.{Filled, Knows, Empty, Tables, MapsRead}
 use Rattle.pack_config.specs.declared.First.the-variants as F
-use Rattle.pack_config.proofs.Maps.{tables-none}
+use Rattle.pack_config.proofs.Tables.{tables-none, column-is, column-filled}
 use Rattle.pack_config.proofs.Openings.{opens-without, opens-with, maps-short}
-use Rattle.pack_read.proofs.Outcomes.{then-fine, then-refused, then-then, fine-of, refused-of}
-use Rattle.pack_read.specs.Shown.{shownBody, outlineOf, Outlined, BodyTold, openedOf, Opens}
+use Rattle.pack.specs.declared.Reading.{Reading}
+use Rattle.pack_read.proofs.One.{check-is-read}
+use Rattle.pack_read.specs.Shown.{outlineOf, Outlined}
+use Rattle.pack_read.specs.Steps.{counted, shownBody, BodyTold, openedOf, Opens}
 use Rattle.pack_read.specs.declared.Outline.{Outline}
 use Rattle.pack_read.specs.declared.Opened.{Opened}
 use Rattle.pack_read.specs.declared.Opened.the-variants as O
@@ -33,37 +37,35 @@ opening s = andThen (valueStart s) (openingAt s)
 
 module _ (s : List ℕ) {tags places known : List ℕ} where
   stops : {why : Refusal} {p : ℕ} → opening s ≡ refused why p → Opens (opening s) (O.Refused why p) tags places known
-  unfolding openedOf Hold
-  stops e = record { told = sym (ap openedOf e); tables = subst (λ (o : Outcome (List Mapping)). Hold o tags places known) (sym (then-refused _ e)) tt }
-
-  begins : {o : Opening} → opening s ≡ fine o → Hold (fine (o .mappings)) tags places known → Opens (opening s) (O.From (o .offset) (length (o .mappings)) (o .next)) tags places known
   unfolding openedOf
-  begins e t = record { told = sym (ap openedOf e); tables = subst (λ (o : Outcome (List Mapping)). Hold o tags places known) (sym (then-fine _ e)) t }
+  stops e = record { told = sym (ap openedOf e); tables = λ x q. absurd-eq (cc) }
+
+  begins : {o : Opening} → opening s ≡ fine o → Tables (o .mappings) tags places known → Opens (opening s) (O.From (o .offset) (length (o .mappings)) (o .next)) tags places known
+  unfolding openedOf
+  begins {o} e t = record { told = sym (ap openedOf e); tables = λ x q. let same : o ≡ x = cc in subst (λ (y : Opening). Tables (y .mappings) tags places known) same t }
 
   pub open-refused : {why : Refusal} {p : ℕ} → valueStart s ≡ refused why p → Opens (opening s) (O.Refused why p) tags places known
   open-refused e = stops (then-refused (openingAt s) e)
 
   module _ {at : ℕ} (h : valueStart s ≡ fine at) where
     pub open-without : firstAt s at ≡ F.Other → Empty tags places known → Opens (opening s) (O.From 0 0 at) tags places known
-    unfolding Hold
     open-without e m = begins (then-fine (openingAt s) h ∙ opens-without s at e) (tables-none m)
 
     module _ {v l : ℕ} (e : firstAt s at ≡ F.Config v l) {m : Answer} (g : MapsRead (configMaps s at v l) m tags places known) where
       pub open-stops : {why : Refusal} {p : ℕ} → m ≡ A.Refused why p → Opens (opening s) (O.Refused why p) tags places known
-      open-stops d = stops (then-fine (openingAt s) h ∙ opens-with s at v l e ∙ then-refused _ (refused-of length _ (sym d ∙ g .count)))
+      open-stops d = stops (then-fine (openingAt s) h ∙ opens-with s at v l e ∙ then-refused _ (refused-was length (g .count) d))
 
       pub open-with : {n f : ℕ} → m ≡ A.Done n → f ≡ bigAt s v 2 → Opens (opening s) (O.From f n (v + l)) tags places known
       open-with {n} {f} d b =
-          fine-of length (configMaps s at v l) (Opens (opening s) (O.From f n (v + l)) tags places known) (sym d ∙ g .count)
-          (λ ms q i.
-          subst (λ (o : Opened). Opens (opening s) o tags places known) (ap₂ (λ (x k : ℕ). O.From x k (v + l)) (sym b) (sym i))
-          (begins (then-fine (openingAt s) h ∙ opens-with s at v l e ∙ then-fine _ q) (subst (λ (o : Outcome (List Mapping)). Hold o tags places known) q (g .tables))))
+          let m = done-was length (g .count) d in
+          subst (λ (o : Opened). Opens (opening s) o tags places known) (ap₂ (λ (x k : ℕ). O.From x k (v + l)) (sym b) (m .2))
+          (begins (then-fine (openingAt s) h ∙ opens-with s at v l e ∙ then-fine _ (m .1)) (g .tables (m .0) (m .1)))
 
       -- a Config whose mappings were read has its two bytes of offset
       pub open-sized : {n : ℕ} → m ≡ A.Done n → 2 ≤ l
       open-sized {n} d =
           split (ltb l 2)
-          (λ b. fine-of length (configMaps s at v l) (2 ≤ l) (sym d ∙ g .count) (λ ms q i. let z = sym q ∙ maps-short s at v l (ltb-true _ _ b) in absurd-eq (cc)))
+          (λ b. let z = sym (done-was length (g .count) d .1) ∙ maps-short s at v l (ltb-true _ _ b) in absurd-eq (cc))
           (λ b. ltb-false _ _ b)
 
 -- what is told of an opening
@@ -84,6 +86,12 @@ unfolding andThen
 small s (fine at) e h = start-small s at e
 small s (refused why p) e h = absurd-eq (cc)
 
+-- the answer of a reading is the count of its items
+body-answer : (offset mapped : ℕ) (tags places : List ℕ) (o : Outcome Body) → answered counted o ≡ shownBody offset mapped tags places o .answer
+unfolding answered shownBody shown
+body-answer offset mapped tags places (fine b) = refl
+body-answer offset mapped tags places (refused why p) = refl
+
 -- the reading, by the opening
 whole : (s : List ℕ) → reading s ≡ andThen (opening s) (readFrom s)
 unfolding reading
@@ -100,6 +108,10 @@ module _ (s : List ℕ) {r : Opened} {tags places known : List ℕ} (g : Opens (
   whole-refused : {why : Refusal} {p : ℕ} → r ≡ O.Refused why p → reading s ≡ refused why p
   whole-refused e = whole s ∙ then-refused (readFrom s) (told-refused (opening s) (sym e ∙ g .told))
 
+  pub checked-refused : {why : Refusal} {p : ℕ} {a : Answer} → r ≡ O.Refused why p → a ≡ A.Refused why p → a ≡ checked s
+  unfolding checked
+  checked-refused e q = answers _ (whole-refused e) q
+
   pub outlined-refused : {why : Refusal} {p : ℕ} {o : Outline} {slots : List ℕ} → r ≡ O.Refused why p → o ≡ outlineOf (shown (refused why p))
       → Outlined s o slots tags places
   unfolding shown
@@ -107,23 +119,21 @@ module _ (s : List ℕ) {r : Opened} {tags places known : List ℕ} (g : Opens (
 
   module _ {f m n : ℕ} (e : r ≡ O.From f m n) where
     from : (P : Type 0) → ((x : Opening) → opening s ≡ fine x → Tables (x .mappings) tags places known → f ≡ x .offset → m ≡ length (x .mappings) → n ≡ x .next → P) → P
-    unfolding Hold
-    from P k =
-        told-from (opening s) P (sym e ∙ g .told)
-        (λ x q a b d. k x q (subst (λ (o : Outcome (List Mapping)). Hold o tags places known) (then-fine _ q) (g .tables)) a b d)
+    from P k = told-from (opening s) P (sym e ∙ g .told) (λ x q a b d. k x q (g .tables x q) a b d)
+
+    pub opened-small : length s ≤ 32768
+    opened-small = from (length s ≤ 32768) (λ x q t a b d. small s (valueStart s) refl q)
 
     -- the first m places of the tables hold the mappings
     tags-are : (x : Opening) → Tables (x .mappings) tags places known → m ≡ length (x .mappings) → take m tags ≡ tagsOf (x .mappings)
-    tags-are x t b =
-        ap (take m) (t .tagged) ∙ take-padded 32 0 (tagsOf (x .mappings)) m (length-map (x .mappings) (λ (q : Mapping). q .tag) ∙ sym b)
+    tags-are x t b = column-is (x .mappings) (λ (q : Mapping). q .tag) (t .tagged) (sym b)
 
     pub asked : {slots : List ℕ} → slots ≡ replicate 512 0 → (length s ≤ 32768) × Filled m tags × Knows (take m tags) known × (slots ≡ replicate 512 0)
     asked {slots} none =
         from ((length s ≤ 32768) × Filled m tags × Knows (take m tags) known × (slots ≡ replicate 512 0))
-        (λ x q t a b d.
-        let l : length tags ≡ 32 = ap length (t .tagged) ∙ length-padded 32 0 (tagsOf (x .mappings)) m (length-map (x .mappings) (λ (y : Mapping). y .tag) ∙ sym b) (omega (arith, t .few)) in (
-          small s (valueStart s) refl q,
-          record { few = omega (arith, t .few); there = omega (arith, t .few) },
+        (λ x q t a b d. (
+          opened-small,
+          column-filled (x .mappings) (λ (y : Mapping). y .tag) (t .tagged) (sym b) (omega (arith, t .few)),
           subst (λ (u : List ℕ). Knows u known) (sym (tags-are x t b)) (t .index),
           none,
         ))
@@ -140,3 +150,9 @@ module _ (s : List ℕ) {r : Opened} {tags places known : List ℕ} (g : Opens (
 
     pub outlined-from : {o : Outline} {slots : List ℕ} → BodyTold f m tags (itemsFrom (length s) s (take m tags) n 0) o slots → Outlined s o slots tags places
     outlined-from b = record { told = b places .0 ∙ ap outlineOf whole-from; whole = λ k h. b places .1 k h ∙ whole-from }
+
+    -- a count of the items that holds for any tags
+    pub checked-from : {a : Answer} → ((ts : List ℕ) → a ≡ answered counted (itemsFrom (length s) s ts n 0)) → a ≡ checked s
+    checked-from h =
+        h (take m tags) ∙ body-answer f m tags places (itemsFrom (length s) s (take m tags) n 0) ∙ ap (λ (x : Reading). x .answer) whole-from
+        ∙ sym (check-is-read s)

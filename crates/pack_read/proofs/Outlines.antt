@@ -7,7 +7,8 @@ use Rattle.refusals.specs.declared.Refusal.{Refusal}
 use Rattle.refusals.specs.declared.Answer.{Answer}
 use Rattle.refusals.specs.declared.Answer.the-variants as A
 use Rattle.refusals.specs.Outcomes.{Outcome, fine, refused}
-use Rattle.pack.specs.Reading.{Read, reading, shown}
+use Rattle.pack.specs.Reading.{Read, reading}
+use Rattle.pack.specs.Slots.{shown}
 use Rattle.pack_read.specs.Shown.{Outlined}
 use Rattle.pack_read.specs.declared.Outline.{Outline}
 

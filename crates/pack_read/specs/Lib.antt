@@ -1,2 +1,2 @@
-pub mod Counts
 pub mod Shown
+pub mod Steps

@@ -1,51 +1,13 @@
--- What the steps of a reading make. No rule of document 01 is stated here.
+-- What is read of a pack into lent arrays: the outline of the reading, and what the arrays hold.
 use mathlib.Core.Path.{_≡_}
-use mathlib.Core.List.{List, map}
-use Prim.Native.Nat.{ℕ, _+_, _≤_}
-use lib.ListN.{length}
-use lib.Seq.{sets}
-use Rattle.refusals.specs.declared.Answer.{Answer}
+use mathlib.Core.List.{List}
+use Prim.Native.Nat.{ℕ}
 use Rattle.refusals.specs.declared.Answer.the-variants as A
-use Rattle.refusals.specs.Outcomes.{Outcome, fine, refused, andThen, answered}
-use Rattle.numbers.specs.Big.{bigAt}
-use Rattle.pack.specs.Fixed.{itemCap}
-use Rattle.pack.specs.Config.{Mapping}
-use Rattle.pack.specs.Payloads.{innersFrom}
-use Rattle.pack.specs.Items.{Body, countOf}
-use Rattle.pack.specs.Reading.{Opening, reading, slot, slots, blank, padded, shown}
-use Rattle.pack.specs.declared.Payload.{Payload}
-use Rattle.pack.specs.declared.Head.{Head}
-use Rattle.pack.specs.declared.Item.the-variants as I
-use Rattle.pack.specs.declared.Slot.{Slot}
+use Rattle.pack.specs.Reading.{reading}
+use Rattle.pack.specs.Slots.{shown}
 use Rattle.pack.specs.declared.Reading.{Reading}
-use Rattle.pack_config.specs.Tables.{Hold}
 use Rattle.pack_slots.specs.Slots.{slotsIn}
 use Rattle.pack_read.specs.declared.Outline.{Outline}
-use Rattle.pack_read.specs.declared.Opened.{Opened}
-use Rattle.pack_read.specs.declared.Opened.the-variants as O
-
--- a Sync with m payloads inside
-abbrev pub headOf : List ℕ → ℕ → ℕ → ℕ → ℕ → Head
-headOf s at v l m = record { start = at; «value_start» = v; «value_len» = l; offset = bigAt s v 2; duration = bigAt s (v + 2) 2; inside = m }
-
--- the payloads of an inside q stand in the slots from `used` on; fuel, if it is enough, does not matter
-pub record InsideRead (q tags : List ℕ) (base used : ℕ) (r : Answer) (before after : List Slot) : Type 0 where
-  pub told : (k : ℕ) → length q ≤ k → r ≡ answered (λ (xs : List Payload). used + length xs) (innersFrom k q tags base 0 used)
-  pub few : (n : ℕ) → r ≡ A.Done n → n ≤ itemCap
-  pub full : (k : ℕ) (xs : List Payload) → length q ≤ k → innersFrom k q tags base 0 used ≡ fine xs → after ≡ sets before used (map (λ (x : Payload). slot (I.Inner x)) xs)
-
--- how the struct shows the items of a pack whose opening is known: its offset, how many mappings, and their two tables
-unfoldable pub shownBody : ℕ → ℕ → List ℕ → List ℕ → Outcome Body → Reading
-shownBody offset mapped tags places (fine b) = record {
-  answer = A.Done (countOf (b .parts));
-  offset = offset;
-  crc = b .crc;
-  mapped = mapped;
-  tags = tags;
-  labels = places;
-  items = padded itemCap blank (slots (b .parts));
-}
-shownBody offset mapped tags places (refused why place) = shown (refused why place)
 
 -- what is read beside the slots and the mappings
 abbrev pub outlineOf : Reading → Outline
@@ -67,24 +29,3 @@ assembled o tags places slots = record {
 pub record Outlined (s : List ℕ) (r : Outline) (slots tags places : List ℕ) : Type 0 where
   pub told : r ≡ outlineOf (shown (reading s))
   pub whole : (n : ℕ) → r .answer ≡ A.Done n → assembled r tags places slots ≡ shown (reading s)
-
--- so it is of the items of a pack whose opening is known, wherever the labels of its mappings stand
-abbrev pub BodyTold : ℕ → ℕ → List ℕ → Outcome Body → Outline → List ℕ → Type 0
-BodyTold offset mapped tags o r slots =
-    (places : List ℕ)
-    → (r ≡ outlineOf (shownBody offset mapped tags places o))
-    × ((n : ℕ) → r .answer ≡ A.Done n → assembled r tags places slots ≡ shownBody offset mapped tags places o)
-
--- an opening as the code has it: three numbers, or the refusal
-unfoldable pub openedOf : Outcome Opening → Opened
-openedOf (fine o) = O.From (o .offset) (length (o .mappings)) (o .next)
-openedOf (refused why place) = O.Refused why place
-
--- the mappings of an opening
-abbrev pub mapsOf : Outcome Opening → Outcome (List Mapping)
-mapsOf o = andThen o (λ x. fine (x .mappings))
-
--- and the tables of its mappings
-pub record Opens (o : Outcome Opening) (r : Opened) (tags places known : List ℕ) : Type 0 where
-  pub told : r ≡ openedOf o
-  pub tables : Hold (mapsOf o) tags places known

@@ -11,7 +11,7 @@ use Rattle.pack.specs.declared.Head.{Head}
 use Rattle.pack.specs.declared.Item.{Item}
 use Rattle.pack.specs.declared.Item.the-variants.{Single, Sync, Inner}
 use Rattle.pack.specs.declared.Slot.{Slot}
-use Rattle.pack.proofs.Slots.{row-taken}
+use Rattle.pack.proofs.Slots.{slot-taken}
 use Rattle.pack_rows.specs.Rows.{extended, payloadRow, syncRow, itemRow, itemRows}
 
 -- LENGTHS
@@ -38,7 +38,7 @@ length-rows places (w ∷ ws) =
 pub rows-first : (places : List ℕ) (ws : List Slot) (count i : ℕ) (d : Slot) → count ≤ length ws → i < count
     → itemRows places (drop i (take count ws)) ≡ itemRow places (getD ws i d .item) ++ itemRows places (drop (i + 1) (take count ws))
 unfolding itemRows
-rows-first places ws count i d m h = ap (itemRows places) (row-taken ws count i d m h)
+rows-first places ws count i d m h = ap (itemRows places) (slot-taken ws count i d m h)
 
 pub rows-none : (places : List ℕ) (ws : List Slot) (i : ℕ) → length ws ≤ i → itemRows places (drop i ws) ≡ []
 unfolding itemRows

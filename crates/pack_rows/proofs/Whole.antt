@@ -19,10 +19,11 @@ use Rattle.refusals.proofs.Lent.{fine-within, none-within, delivered-refused, d
 use Rattle.pack.specs.Fixed.{itemCap, mappingCap}
 use Rattle.pack.specs.Config.{placesOf}
 use Rattle.pack.specs.Items.{countOf}
-use Rattle.pack.specs.Reading.{Read, reading, slots, blank, padded, shown}
-use Rattle.pack.specs.Rows.{RowsFit}
+use Rattle.pack.specs.Reading.{Read, reading}
+use Rattle.pack.specs.Slots.{slots, blank, padded, shown}
+use Rattle.pack.specs.Fits.{SlotsFit}
 use Rattle.pack.specs.declared.Reading.{Reading}
-use Rattle.pack.proofs.Slots.{slots-count, rows-taken}
+use Rattle.pack.proofs.Slots.{slots-count, slots-taken}
 use Rattle.pack_layout.proofs.Bounds.{reading-bounds}
 use Rattle.pack_layout.proofs.Shown.{rows-fit}
 use Rattle.pack_rows.specs.Rows.{packRow, itemRows, rowsOf, rowsRead}
@@ -35,7 +36,7 @@ numbers f n = packRow (f .offset) (f .crc) n ++ itemRows (f .labels) (take n (f 
 pub record Told (s : List ℕ) (f : Reading) (n : ℕ) : Type 0 where
   pub few : n ≤ itemCap
   pub there : n ≤ length (f .items)
-  pub fit : RowsFit (take n (f .items))
+  pub fit : SlotsFit (take n (f .items))
   pub size : length (itemRows (f .labels) (take n (f .items))) ≡ 8 * n
   pub whole : rowsRead s ≡ fine (numbers f n)
 
@@ -51,7 +52,7 @@ shown-rows s b (fine r) e n h =
     let parts = r .body .parts in
     let places = placesOf (r .mappings) in
     let filled = padded mappingCap 0 places in
-    let taken = rows-taken parts in
+    let taken = slots-taken parts in
     let same : itemRows filled (take (countOf parts) (padded itemCap blank (slots parts))) ≡ itemRows places (slots parts) =
     ap (itemRows filled) taken ∙ rows-padded places (mappingCap - length places) (slots parts) in
     let z : countOf parts ≡ n = cc in
@@ -59,7 +60,7 @@ shown-rows s b (fine r) e n h =
     (record {
       few = a .count;
       there = omega (arith, length-append (slots parts) (replicate (itemCap - length (slots parts)) blank), slots-count parts);
-      fit = subst RowsFit (sym taken) (rows-fit s (length (r .mappings)) (a .mapped) parts (a .parts));
+      fit = subst SlotsFit (sym taken) (rows-fit s (length (r .mappings)) (a .mapped) parts (a .parts));
       size = omega (arith, ap length same, length-rows places (slots parts), slots-count parts);
       whole =
           ap (λ (o : Outcome Read). andThen o (λ (q : Read). fine (rowsOf q))) e

@@ -12,7 +12,8 @@ use Rattle.numbers.specs.Lengths.{lengthAt}
 use Rattle.pack.specs.Fixed.{key}
 use Rattle.pack.specs.Payloads.{valueFound, tagFound, payloadAt, innerAt, nameFrom, innersFrom}
 use Rattle.pack.specs.Items.{judged, itemAt, someInside, itemsFrom, countOf}
-use Rattle.pack.specs.Reading.{valueStart, openingAt, readFrom, reading, slots}
+use Rattle.pack.specs.Reading.{valueStart, openingAt, readFrom, reading}
+use Rattle.pack.specs.Slots.{slots}
 use Rattle.pack_rows.specs.Rows.{extended, packRow, payloadRow, syncRow, itemRow, itemRows, rowsOf, rowsRead}
 
 unfoldable pub example : List ℕ

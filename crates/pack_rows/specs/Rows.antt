@@ -7,7 +7,8 @@ use lib.ListN.{getD}
 use Rattle.refusals.specs.Outcomes.{Outcome, fine, andThen}
 use Rattle.pack.specs.Config.{placesOf}
 use Rattle.pack.specs.Items.{countOf}
-use Rattle.pack.specs.Reading.{Read, reading, slots}
+use Rattle.pack.specs.Reading.{Read, reading}
+use Rattle.pack.specs.Slots.{slots}
 use Rattle.pack.specs.declared.Name.{Name}
 use Rattle.pack.specs.declared.Name.the-variants.{Label, Number}
 use Rattle.pack.specs.declared.Head.{Head}

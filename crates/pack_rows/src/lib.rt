@@ -4,7 +4,7 @@ ghost use mathlib.Core.Bool.{cond};
 ghost use Prim.Native.Nat.{_≤_};
 ghost use lib.ListN.{length};
 ghost use Rattle.refusals.specs.Lent.{within, Delivered};
-ghost use Rattle.pack.specs.Rows.{NameFits, ItemFits};
+ghost use Rattle.pack.specs.Fits.{NameFits, ItemFits};
 ghost use Rattle.pack_slots.specs.Slots.{cellNumbers};
 ghost use Rattle.pack_rows.specs.Rows.{extended, packRow, payloadRow, itemRow, rowsRead};
 use pack::Item;

@@ -8,7 +8,7 @@ use Rattle.runs.specs.Over.{over}
 use Rattle.runs.specs.Cells.{cellsFrom}
 use Rattle.runs.proofs.Cells.{Local, length-cells, cell-at, cells-put}
 use Rattle.pack.specs.Fixed.{itemCap}
-use Rattle.pack.specs.Reading.{slot, blank}
+use Rattle.pack.specs.Slots.{slot, blank}
 use Rattle.pack.specs.declared.Name.{Name}
 use Rattle.pack.specs.declared.Name.the-variants.{Label, Number}
 use Rattle.pack.specs.declared.Payload.{Payload}

@@ -6,7 +6,7 @@ use lib.Dec.{eqb}
 use lib.ListN.{getD}
 use Rattle.runs.specs.Cells.{cells}
 use Rattle.pack.specs.Fixed.{itemCap}
-use Rattle.pack.specs.Reading.{slot}
+use Rattle.pack.specs.Slots.{slot}
 use Rattle.pack.specs.declared.Name.{Name}
 use Rattle.pack.specs.declared.Name.the-variants.{Label, Number}
 use Rattle.pack.specs.declared.Payload.{Payload}

@@ -4,7 +4,7 @@ ghost use Prim.Native.Nat.{_+_, _*_, _<_, _≤_};
 ghost use lib.ListN.{length, getD, set};
 ghost use Rattle.runs.specs.Over.{Wrote};
 ghost use Rattle.pack.specs.Fixed.{itemCap};
-ghost use Rattle.pack.specs.Reading.{slot};
+ghost use Rattle.pack.specs.Slots.{slot};
 ghost use Rattle.pack_slots.specs.Slots.{cellNumbers, payloadNumbers, itemNumbers, slotName, slotPayload, slotHead, slotItem, slotsIn, ItemNarrow};
 use pack::Head;
 use pack::Item;

@@ -8,7 +8,7 @@ use lib.ListN.{length, getD, take, drop, drop-of-length-le}
 use lib.Seq.{getD-take, length-take-le}
 use Rattle.pack.specs.Fixed.{mappingCap}
 use Rattle.pack.specs.Meaning.{stretch}
-use Rattle.pack.proofs.Slots.{row-taken}
+use Rattle.pack.proofs.Slots.{slot-taken}
 use Rattle.pack.specs.declared.Name.{Name}
 use Rattle.pack.specs.declared.Name.the-variants.{Label, Number}
 use Rattle.pack.specs.declared.Payload.{Payload}
@@ -68,7 +68,7 @@ module _ (s places : List ℕ) (rows : List Slot) (count i : ℕ) (d : Slot) (m 
   pub rows-first : i < count
       → rowLines s places (drop i (take count rows)) ≡ itemLine s places (getD rows i d .item) ++ rowLines s places (drop (i + 1) (take count rows))
   unfolding rowLines
-  rows-first h = ap (rowLines s places) (row-taken rows count i d m h)
+  rows-first h = ap (rowLines s places) (slot-taken rows count i d m h)
 
   pub row-stands : i < count → RowsStand s places (take count rows) → ItemStands s places (getD rows i d .item)
   row-stands h p =

@@ -10,9 +10,10 @@ use Rattle.runs.proofs.Those.{each-append}
 use Rattle.pack.specs.Fixed.{mappingCap, itemCap}
 use Rattle.pack.specs.Config.{Mapping, placesOf}
 use Rattle.pack.specs.Items.{Part, one, many, countOf}
-use Rattle.pack.specs.Reading.{Read, slot, slots, blank, padded}
+use Rattle.pack.specs.Reading.{Read}
+use Rattle.pack.specs.Slots.{slot, slots, blank, padded}
 use Rattle.pack.specs.Meaning.{stretch}
-use Rattle.pack.proofs.Slots.{rows-taken}
+use Rattle.pack.proofs.Slots.{slots-taken}
 use Rattle.pack.specs.declared.Name.{Name}
 use Rattle.pack.specs.declared.Name.the-variants.{Label, Number}
 use Rattle.pack.specs.declared.Payload.{Payload}
@@ -86,11 +87,11 @@ module _ (s : List ℕ) (r : Read) (a : Accepted s r) where
       ≡ partLines s (placesOf (r .mappings)) (r .body .parts)
   accepted-lines =
       let places = placesOf (r .mappings) in
-      ap (rowLines s (padded mappingCap 0 places)) (rows-taken (r .body .parts))
+      ap (rowLines s (padded mappingCap 0 places)) (slots-taken (r .body .parts))
       ∙ lines-of s places (replicate (mappingCap - length places) 0) (r .body .parts) parts-lie
 
   pub accepted-stand : RowsStand s (padded mappingCap 0 (placesOf (r .mappings))) (take (countOf (r .body .parts)) (padded itemCap blank (slots (r .body .parts))))
   accepted-stand =
       let places = placesOf (r .mappings) in
-      subst (RowsStand s (padded mappingCap 0 places)) (sym (rows-taken (r .body .parts)))
+      subst (RowsStand s (padded mappingCap 0 places)) (sym (slots-taken (r .body .parts)))
       (stand-of s places (replicate (mappingCap - length places) 0) (omega (arith, a .mapped, places-length)) (labels-stand s (r .mappings) (a .labels)) (r .body .parts) parts-lie)

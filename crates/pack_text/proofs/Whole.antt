@@ -12,7 +12,8 @@ use Rattle.refusals.specs.declared.Answer.{Answer}
 use Rattle.refusals.specs.declared.Answer.the-variants.{Done, Refused}
 use Rattle.pack.specs.Fixed.{itemCap}
 use Rattle.pack.specs.Items.{countOf}
-use Rattle.pack.specs.Reading.{Read, reading, shown}
+use Rattle.pack.specs.Reading.{Read, reading}
+use Rattle.pack.specs.Slots.{shown}
 use Rattle.pack.specs.declared.Reading.{Reading}
 use Rattle.pack_layout.proofs.Bounds.{reading-bounds}
 use Rattle.pack_text.specs.Text.{packLine, refusedLine, listing}

@@ -27,7 +27,8 @@ use Rattle.bits.proofs.Fields as fields
 use Rattle.crc.specs.Crc.{crcOf}
 use Rattle.crc.proofs.Serial as serial
 use Rattle.pack.specs.Said.{SaidItem}
-use Rattle.pack.specs.Reading.{Read, reading, checked, shown}
+use Rattle.pack.specs.Reading.{Read, reading, checked}
+use Rattle.pack.specs.Slots.{shown}
 use Rattle.pack.specs.Meaning.{meant, valueOf, labelAt}
 use Rattle.pack.specs.declared.Payload.{Payload}
 use Rattle.pack.specs.declared.Reading.{Reading}

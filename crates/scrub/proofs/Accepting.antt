@@ -10,11 +10,12 @@ use Rattle.refusals.specs.Outcomes.{fine}
 use Rattle.pack.specs.declared.Slot.{Slot}
 use Rattle.pack.specs.Fixed.{itemCap, mappingCap}
 use Rattle.pack.specs.Config.{Mapping}
-use Rattle.pack.specs.Reading.{Read, reading, slots, padded}
+use Rattle.pack.specs.Reading.{Read, reading}
+use Rattle.pack.specs.Slots.{slots, padded}
+use Rattle.pack.specs.Fits.{SlotsFit}
 use Rattle.pack.specs.Meaning.{meant}
-use Rattle.pack.specs.Rows.{RowsFit}
 use Rattle.pack.proofs.Padded.{take-padded}
-use Rattle.pack.proofs.Slots.{rows-taken}
+use Rattle.pack.proofs.Slots.{slots-taken}
 use Rattle.pack_layout.proofs.Shown.{rows-fit}
 use Rattle.scrub_kept.specs.Sheet.{Sheet}
 use Rattle.scrub_kept.specs.Kept.{kept}
@@ -33,7 +34,7 @@ module _ (s : List ℕ) (bytes : Bytes s) {offset mapped : ℕ} {stood : List �
 
   items-are : take count items ≡ slots (r .body .parts)
   items-are =
-      ap₂ take (g .counted) (g .hold) ∙ rows-taken (r .body .parts)
+      ap₂ take (g .counted) (g .hold) ∙ slots-taken (r .body .parts)
 
   labels-are : stood ≡ places s r (a s bytes r (g .is) sh)
   labels-are = g .stand
@@ -53,7 +54,7 @@ module _ (s : List ℕ) (bytes : Bytes s) {offset mapped : ℕ} {stood : List �
       let e = g .maps in
       (omega arith, rw places-are (places-fit s (r .mappings) (acc .labels)))
 
-  pub note-asks : RowsFit (take count items)
+  pub note-asks : SlotsFit (take count items)
   note-asks =
       let acc = a s bytes r (g .is) sh in rw items-are (rows-fit s (length (r .mappings)) (acc .mapped) (r .body .parts) (acc .parts))
 

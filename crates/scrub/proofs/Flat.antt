@@ -21,7 +21,7 @@ use Rattle.pack.specs.declared.Item.the-variants as I
 use Rattle.pack.specs.declared.Slot.{Slot}
 use Rattle.pack.specs.Said.{SaidPayload, SaidItem}
 use Rattle.pack.specs.Items.{Part, one, many}
-use Rattle.pack.specs.Reading.{slot, slots}
+use Rattle.pack.specs.Slots.{slot, slots}
 use Rattle.pack.specs.Meaning.{stretch, meantName, meantPayload, meantPart}
 use Rattle.pack_layout.specs.Layout.{Entry, element, elementsBytes, chunksBytes}
 use Rattle.runs.specs.Those.{those, Each}

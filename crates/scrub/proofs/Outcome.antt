@@ -16,7 +16,8 @@ use Rattle.pack.specs.declared.Slot.{Slot}
 use Rattle.pack.specs.declared.Reading.{Reading}
 use Rattle.pack.specs.Items.{countOf}
 use Rattle.pack.specs.Fixed.{packCap}
-use Rattle.pack.specs.Reading.{Read, reading, slots, blank, shown}
+use Rattle.pack.specs.Reading.{Read, reading}
+use Rattle.pack.specs.Slots.{slots, blank, shown}
 use Rattle.pack.proofs.Slots.{slots-count}
 use Rattle.pack.specs.Meaning.{meant}
 use Rattle.pack.specs.Said.{Said}

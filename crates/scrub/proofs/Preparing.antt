@@ -12,7 +12,8 @@ use Rattle.pack.specs.Fixed.{itemCap, mappingCap}
 use Rattle.pack.specs.Said.{label, Said, names}
 use Rattle.pack.specs.Config.{Mapping}
 use Rattle.pack.specs.Items.{Part, countOf}
-use Rattle.pack.specs.Reading.{Read, reading, slots, padded}
+use Rattle.pack.specs.Reading.{Read, reading}
+use Rattle.pack.specs.Slots.{slots, padded}
 use Rattle.pack.specs.Meaning.{meantPart, meant}
 use Rattle.pack.proofs.Padded.{take-padded}
 use Rattle.pack.proofs.Slots.{slots-count}

@@ -15,7 +15,8 @@ use Rattle.pack.specs.Said.{label}
 use Rattle.pack.specs.Config.{Mapping}
 use Rattle.pack.specs.Config as C
 use Rattle.pack.specs.Items.{Part, one, many}
-use Rattle.pack.specs.Reading.{Read, slot, slots, padded}
+use Rattle.pack.specs.Reading.{Read}
+use Rattle.pack.specs.Slots.{slot, slots, padded}
 use Rattle.pack_layout.specs.Layout.{Entry}
 use Rattle.pack_layout.specs.Well.{WellEntries}
 use Rattle.pack_layout.proofs.Entries.{entryOf, entryLabels}

@@ -9,7 +9,8 @@ use Rattle.pack.specs.Fixed.{itemCap, mappingCap}
 use Rattle.pack.specs.Config.{placesOf}
 use Rattle.pack.specs.Said.{Said}
 use Rattle.pack.specs.Items.{countOf}
-use Rattle.pack.specs.Reading.{Read, reading, slots, blank, padded}
+use Rattle.pack.specs.Reading.{Read, reading}
+use Rattle.pack.specs.Slots.{slots, blank, padded}
 use Rattle.scrub_kept.specs.Written.{contentOf, valueSize}
 use Rattle.scrub_write.specs.Ops.{OpSlot, OpsFit}
 use Rattle.scrub_write.specs.Laid.{contentAt, EntriesFit}

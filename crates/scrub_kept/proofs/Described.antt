@@ -16,7 +16,8 @@ use Rattle.numbers.specs.Lengths.{formBytes, shortest}
 use Rattle.numbers.proofs.Tags.{tag-short}
 use Rattle.numbers.proofs.Lengths.{shortest-most, shortest-reaches, length-form}
 use Rattle.pack.specs.Fixed.{packCap, mappingCap}
-use Rattle.pack.specs.Said.{SaidName, label, number, SaidPayload, SaidItem, single, sync, Said, names, total}
+use Rattle.pack.specs.Said.{SaidName, label, number, SaidPayload, SaidItem, single, sync, Said, names}
+use Rattle.pack.proofs.Said.{total}
 use Rattle.pack_layout.specs.Layout.{noConfig, Entry, crc, elementsBytes, groupBytes, chunksBytes, entriesBytes, configBytes, entryFor, saidElement, saidChunk, offsetLaid, entriesLaid, says}
 use Rattle.pack_layout.specs.Well.{FormFits, WellElement, WellElements, WellChunks, WellEntries, WellConfig, WellCrc, crcSize, chunksCount, WellFormed}
 use Rattle.pack_layout.proofs.Entries.{entryLabels}

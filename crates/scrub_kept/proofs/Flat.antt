@@ -22,7 +22,8 @@ use Rattle.pack.specs.declared.Slot.{Slot}
 use Rattle.pack.specs.Said.{SaidPayload, SaidItem}
 use Rattle.pack.specs.Items.{Part, one, many}
 use Rattle.pack.specs.Config.{labelsOf}
-use Rattle.pack.specs.Reading.{Read, slot, slots, reading}
+use Rattle.pack.specs.Reading.{Read, reading}
+use Rattle.pack.specs.Slots.{slot, slots}
 use Rattle.pack.specs.Meaning.{stretch, meantName, meantPayload, meantPart, meant}
 use Rattle.pack_layout.specs.Layout.{Entry, element, elementsBytes, chunksBytes, configBytes}
 use Rattle.pack_layout.proofs.Bounds.{PayloadLies, PartLies, reading-bounds}

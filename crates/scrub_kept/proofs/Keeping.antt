@@ -6,7 +6,8 @@ use Prim.Native.Nat.{ℕ, _+_, _<_, _≤_}
 use native.Mathlib.Omega.{arith}
 use lib.ListN.{length}
 use Rattle.runs.proofs.Cases.{split, absurd-eq}
-use Rattle.pack.specs.Said.{SaidPayload, SaidItem, single, sync, Said, total}
+use Rattle.pack.specs.Said.{SaidPayload, SaidItem, single, sync, Said}
+use Rattle.pack.proofs.Said.{total}
 use Rattle.runs.specs.Those.{those, Each}
 use Rattle.scrub_kept.specs.Sheet.{Sheet}
 use Rattle.scrub_kept.specs.Kept.{keeps, keptPayloads, keptSync, keptItems, kept}

@@ -11,7 +11,8 @@ use Rattle.runs.specs.Same.{listed}
 use Rattle.runs.proofs.Cases.{split}
 use Rattle.refusals.specs.Outcomes.{fine}
 use Rattle.pack.specs.Fixed.{itemCap, mappingCap, utilityLabels}
-use Rattle.pack.specs.Said.{SaidName, label, number, SaidPayload, SaidItem, single, sync, Said, total}
+use Rattle.pack.specs.Said.{SaidName, label, number, SaidPayload, SaidItem, single, sync, Said}
+use Rattle.pack.proofs.Said.{total}
 use Rattle.pack.specs.Reading.{Read, reading}
 use Rattle.pack.specs.Meaning.{meant}
 use Rattle.pack_layout.specs.Layout.{Element, Chunk, plain, group, Entry, ConfigLaid, noConfig, config, Description, entryFor, saidElement, saidChunk, offsetLaid, entriesLaid, says}

@@ -16,8 +16,8 @@ use Rattle.pack.specs.declared.Payload.{Payload}
 use Rattle.pack.specs.declared.Head.{Head}
 use Rattle.pack.specs.Fixed.{itemCap}
 use Rattle.pack.specs.Said.{number}
-use Rattle.pack.specs.Reading.{padded}
-use Rattle.pack.specs.Rows.{NameFits, ItemFits}
+use Rattle.pack.specs.Slots.{padded}
+use Rattle.pack.specs.Fits.{NameFits, ItemFits}
 use Rattle.pack.proofs.Padded.{set-padded}
 use Rattle.scrub_kept.specs.Sheet.{Sheet}
 use Rattle.scrub_kept.specs.Kept.{keeps}

@@ -12,7 +12,7 @@ use borrow.Author.Tests.{ne-eqb, eqb-true, eqb-false}
 use Rattle.runs.specs.Same.{among}
 use Rattle.runs.proofs.Cases.{split}
 use Rattle.pack.specs.Fixed.{itemCap}
-use Rattle.pack.specs.Reading.{padded}
+use Rattle.pack.specs.Slots.{padded}
 use Rattle.pack.specs.declared.Slot.{Slot}
 use Rattle.scrub_names.specs.declared.Mark.{Mark}
 use Rattle.scrub_names.specs.declared.Mark.the-variants as M

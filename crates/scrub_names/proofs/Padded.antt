@@ -6,7 +6,7 @@ use native.Mathlib.Omega.{arith}
 use native.Mathlib.Numerals.{add-one}
 use lib.ListN.{length, take, getD, set, length-map}
 use lib.Seq.{take-suc, take-all, length-take-le}
-use Rattle.pack.specs.Reading.{padded}
+use Rattle.pack.specs.Slots.{padded}
 use Rattle.pack.proofs.Padded.{set-padded}
 
 -- the elements up to and including the next

@@ -14,7 +14,7 @@ use Rattle.pack.specs.declared.Item.the-variants as I
 use Rattle.pack.specs.declared.Slot.{Slot}
 use Rattle.pack.specs.Fixed.{itemCap}
 use Rattle.pack.specs.Said.{label, number}
-use Rattle.pack.specs.Reading.{padded}
+use Rattle.pack.specs.Slots.{padded}
 use Rattle.scrub_kept.specs.Sheet.{Sheet}
 use Rattle.scrub_kept.specs.Kept.{keeps}
 use Rattle.scrub_names.specs.declared.Mark.{Mark}

@@ -6,8 +6,8 @@ ghost use Prim.Native.Nat.{_+_, _*_, _<_, _≤_};
 ghost use lib.ListN.{length, take, set, replicate};
 ghost use Rattle.runs.specs.Over.{over};
 ghost use Rattle.pack.specs.Fixed.{itemCap, mappingCap};
-ghost use Rattle.pack.specs.Reading.{padded};
-ghost use Rattle.pack.specs.Rows.{NameFits, ItemFits, RowsFit};
+ghost use Rattle.pack.specs.Slots.{padded};
+ghost use Rattle.pack.specs.Fits.{NameFits, ItemFits, SlotsFit};
 ghost use Rattle.pack_slots.specs.Slots.{slotsIn};
 ghost use Rattle.scrub_sheet.specs.Judged.{asks, EntriesThere, Short};
 ghost use Rattle.scrub_names.specs.Marks.{flagsOf, markName, markItem, marksOf, marked, markAt, marksIn, Noted, PlacesFit};
@@ -127,7 +127,7 @@ pub fn note(
     order: &mut [u32; 64],
     taken: &mut [bool; 64],
 ) -> usize
-    requires { ⌜ (count ≤ 64) × RowsFit (take count (slotsIn (now slots))) × EntriesThere (now s) asked × (now marks ≡ replicate 128 0) × (now order ≡ replicate 64 0) × (now taken ≡ replicate 64 false) ⌝ }
+    requires { ⌜ (count ≤ 64) × SlotsFit (take count (slotsIn (now slots))) × EntriesThere (now s) asked × (now marks ≡ replicate 128 0) × (now order ≡ replicate 64 0) × (now taken ≡ replicate 64 false) ⌝ }
     ensures { λ r. ⌜ Noted (marksOf (now (flags .entry)) (asks (now (s .entry)) asked) (take count (slotsIn (now (slots .entry))))) (record { marks = marksIn (now (marks .exit)); order = now (order .exit); labels = r; taken = now (taken .exit) }) ⌝ }
 {
     let short = scrub_sheet::short_numbers(s, asked);

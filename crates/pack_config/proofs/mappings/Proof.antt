@@ -6,10 +6,10 @@ use denote.Ref.{now}
 use Rattle.numbers.specs.declared.TagRead.the-variants as T
 use Rattle.numbers.specs.Tags.{tagAt}
 use Rattle.numbers.proofs.Tags.{tag-next}
-use Rattle.pack_config.proofs.Maps.{sofar-begins, sofar-judging, sofar-ends, sofar-count, sofar-bad, sofar-cut, sofar-short, sofar-clash, sofar-known, sofar-more}
+use Rattle.pack.proofs.Turns.{mapping-count, mapping-bad, mapping-cut, mapping-short}
+use Rattle.pack_config.proofs.Maps.{Sofar, sofar-begins, sofar-judging, sofar-ends, sofar-stops, room, sofar-clash, sofar-known, sofar-more}
 use Prim.Native.Nat.{ℕ, _+_, _-_, _≤_}
 use lib.ListN.{length}
-use Rattle.pack_config.proofs.Maps.{Sofar}
 use Rattle.pack_config.proofs.mappings.Statement.{statement}
 use Rattle.pack_config.proofs.mappings.Tie as tie
 
@@ -19,9 +19,9 @@ Inv-loop c place from tags₀ places₀ known₀ marks₀ mapped₀ at₀ tags p
 abbrev μ-loop : tie.MeasureT-loop
 μ-loop c place from tags₀ places₀ known₀ marks₀ mapped₀ at₀ tags places known marks mapped at = length c - at
 
--- in the arm of a tag, the tag is there
+-- in the arm of a tag, the tag is there, and ends in the part
 abbrev Tag-at : tie.After-t Inv-loop μ-loop → Type 0
-Tag-at c = tagAt (now (c .before .before .before .before .before .before .before .args .c)) (c .before .before .before .before .before .loop .at) ≡ T.Tag (c .t .given .0 .0) (c .t .given .0 .1 .0)
+Tag-at c = let l = c .before .before .before .before .before in tagAt (now (l .before .before .args .c)) (l .loop .at) ≡ T.Tag (c .t .given .0 .0) (c .t .given .0 .1 .0)
 
 tagged : (c : tie.After-t Inv-loop μ-loop) → Tag-at c
 tagged c = sym (c .before .before .read-tag .ensures) ∙ c .t .given .1
@@ -33,7 +33,7 @@ refuse-requires : tie.Need-refuse-requires Inv-loop μ-loop
 refuse-requires c κs = search needs
 
 returns : tie.Need-returns Inv-loop μ-loop
-returns c = λ k h. sofar-count (c .before .before .before .loop .inv k h) (c .before .before .loop-test .taken) (c .before .if1 .taken) (c .refuse .ensures)
+returns c = λ k h. let g = c .before .before .before .loop .inv k h in sofar-stops g (c .before .before .loop-test .taken) (mapping-count _ _ _ _ (omega (arith, g .long))) (c .refuse .ensures)
 
 read-tag-requires : tie.Need-read-tag-requires Inv-loop μ-loop
 read-tag-requires c κs = search needs
@@ -47,7 +47,10 @@ refuse-requires-2 c κs = search needs
 returns-2 : tie.Need-returns-2 Inv-loop μ-loop
 returns-2 c =
     let r = c .before .before .before in
-    λ k h. sofar-bad (c .before .before .before .before .before .before .loop .inv k h) (c .before .before .before .before .before .loop-test .taken) (c .before .before .before .before .if1 .left) (sym (r .read-tag .ensures) ∙ c .before .enum-told .given .1) (c .refuse2 .ensures)
+    let l = r .before in
+    λ k h.
+    let g = l .before .before .loop .inv k h in
+    sofar-stops g (l .before .loop-test .taken) (mapping-bad _ _ _ _ (room g (l .before .loop-test .taken) (l .if1 .left)) (sym (r .read-tag .ensures) ∙ c .before .enum-told .given .1)) (c .refuse2 .ensures)
 
 enum-told-2 : tie.Need-enum-told-2 Inv-loop μ-loop
 enum-told-2 c = search needs
@@ -58,7 +61,10 @@ refuse-requires-3 c κs = search needs
 returns-3 : tie.Need-returns-3 Inv-loop μ-loop
 returns-3 c =
     let r = c .before .before .before in
-    λ k h. sofar-cut (c .before .before .before .before .before .before .loop .inv k h) (c .before .before .before .before .before .loop-test .taken) (c .before .before .before .before .if1 .left) (sym (r .read-tag .ensures) ∙ c .before .enum-told2 .given .1) (c .refuse3 .ensures)
+    let l = r .before in
+    λ k h.
+    let g = l .before .before .loop .inv k h in
+    sofar-stops g (l .before .loop-test .taken) (mapping-cut _ _ _ _ (room g (l .before .loop-test .taken) (l .if1 .left)) (sym (r .read-tag .ensures) ∙ c .before .enum-told2 .given .1)) (c .refuse3 .ensures)
 
 enum-known-t : tie.Need-enum-known-t Inv-loop μ-loop
 enum-known-t c = search needs
@@ -72,7 +78,10 @@ refuse-requires-4 c κs = search needs
 returns-4 : tie.Need-returns-4 Inv-loop μ-loop
 returns-4 c =
     let t = c .before .before .before in
-    λ k h. sofar-short (t .before .before .before .before .before .loop .inv k h) (t .before .before .before .before .loop-test .taken) (t .before .before .before .if1 .left) (tagged t) (c .before .if2 .taken) (c .refuse4 .ensures)
+    let l = t .before .before .before in
+    λ k h.
+    let g = l .before .before .loop .inv k h in
+    sofar-stops g (l .before .loop-test .taken) (mapping-short _ _ _ _ (room g (l .before .loop-test .taken) (l .if1 .left)) _ _ (tagged t) (c .before .if2 .taken)) (c .refuse4 .ensures)
 
 digest-requires : tie.Need-digest-requires Inv-loop μ-loop
 digest-requires c κs = omega (arith, tag-next _ _ _ _ (tagged (c .before .before)) .1)
@@ -82,19 +91,23 @@ array-read-clashes c = c .before .before .before .digest .ensures .1
 
 clashes-requires : tie.Need-clashes-requires Inv-loop μ-loop
 clashes-requires c κs =
-    let t = c .before .before .before .before .before .before in
+    let d = c .before .before .before in
+    let t = d .before .before .before in
+    let l = t .before .before .before .before .before in
     let n = tag-next _ _ _ _ (tagged t) in
-    sofar-judging (t .before .before .before .before .before .loop .inv (length (now (t .before .before .before .before .before .before .before .args .c))) (omega arith)) (t .t .given .0 .1 .0) (omega (arith, c .before .before .before .before .if2 .left)) (c .before .before .before .digest .ensures .0) refl
+    sofar-judging (l .loop .inv (length (now (l .before .before .args .c))) (omega arith)) (t .t .given .0 .1 .0) (omega (arith, d .before .if2 .left)) (d .digest .ensures .0) refl
 
 refuse-requires-5 : tie.Need-refuse-requires-5 Inv-loop μ-loop
 refuse-requires-5 c κs = search needs
 
 returns-5 : tie.Need-returns-5 Inv-loop μ-loop
 returns-5 c =
-    let t = c .before .before .before .before .before .before .before .before .before in
+    let s = c .before .before .before .before .before .before .before in
+    let t = s .before .before in
+    let l = t .before .before .before in
     λ k h.
-    sofar-clash (t .before .before .before .before .before .loop .inv k h) (t .before .before .before .before .loop-test .taken) (t .before .before .before .if1 .left) (tagged t) (c .before .before .before .before .before .before .before .if2 .left) (c .before .before .clashes .ensures) (c .before .if3 .taken)
-    (c .refuse5 .ensures)
+    let g = l .before .before .loop .inv k h in
+    sofar-stops g (l .before .loop-test .taken) (sofar-clash g (l .before .loop-test .taken) (l .if1 .left) (tagged t) (s .if2 .left) (c .before .before .clashes .ensures) (c .before .if3 .taken)) (c .refuse5 .ensures)
 
 mul-tags : tie.Need-mul-tags Inv-loop μ-loop
 mul-tags c = omega (arith, c .before .before .before .before .before .before .before .before .before .before .before .if1 .left)
@@ -134,10 +147,11 @@ loop-less c = omega (arith, tag-next _ _ _ _ (tagged (c .before .before .before 
 
 loop-again : tie.Need-loop-again Inv-loop μ-loop
 loop-again c =
-    let t = c .before .before .before .before .before .before .before .before .before in
     let d = c .before .before .before .before .before .before in
+    let t = d .before .before .before in
+    let l = t .before .before .before in
     λ k h.
-    sofar-known (t .before .before .before .before .before .loop .inv k h) (t .before .before .before .before .loop-test .taken) (t .before .before .before .if1 .left) (tagged t) (c .before .before .before .before .before .before .before .if2 .left) (c .before .before .clashes .ensures) (c .before .if3 .left)
+    sofar-known (l .before .before .loop .inv k h) (l .before .loop-test .taken) (l .if1 .left) (tagged t) (d .before .if2 .left) (c .before .before .clashes .ensures) (c .before .if3 .left)
     (d .digest .ensures .0) (d .digest .ensures .1) (c .if4 .taken)
 
 loop-less-2 : tie.Need-loop-less-2 Inv-loop μ-loop
@@ -145,10 +159,11 @@ loop-less-2 c = omega (arith, tag-next _ _ _ _ (tagged (c .before .before .befor
 
 loop-again-2 : tie.Need-loop-again-2 Inv-loop μ-loop
 loop-again-2 c =
-    let t = c .before .before .before .before .before .before .before .before .before in
     let d = c .before .before .before .before .before .before in
+    let t = d .before .before .before in
+    let l = t .before .before .before in
     λ k h.
-    sofar-more (t .before .before .before .before .before .loop .inv k h) (t .before .before .before .before .loop-test .taken) (t .before .before .before .if1 .left) (tagged t) (c .before .before .before .before .before .before .before .if2 .left) (c .before .before .clashes .ensures) (c .before .if3 .left)
+    sofar-more (l .before .before .loop .inv k h) (l .before .loop-test .taken) (l .if1 .left) (tagged t) (d .before .if2 .left) (c .before .before .clashes .ensures) (c .before .if3 .left)
     (d .digest .ensures .0) (d .digest .ensures .1) (c .if4 .left)
 
 returns-6 : tie.Need-returns-6 Inv-loop μ-loop

@@ -4,7 +4,7 @@ use mathlib.Core.Path.{_≡_}
 use native.Mathlib.Omega.{arith}
 use borrow.Author.Needs.{needs}
 use lib.ListN.{take}
-use Rattle.pack.specs.Reading.{blank, padded}
+use Rattle.pack.specs.Slots.{blank, padded}
 use Rattle.pack_slots.specs.Slots.{slotsIn}
 use Rattle.pack_read.proofs.Slots.{listed-next, listed-all}
 use Rattle.pack_read.proofs.listed.Statement.{statement}

@@ -1,7 +1,7 @@
 -- `pack_read::read` meets its contract: the pack is refused, or the arrays hold its slots and its mappings.
 use mathlib.Core.Path.{sym, ap, _∙_}
 use mathlib.Core.List.{List}
-use Rattle.pack.specs.Reading.{shown}
+use Rattle.pack.specs.Slots.{shown}
 use Rattle.pack.specs.declared.Slot.{Slot}
 use Rattle.pack_read.proofs.Outlines.{outlined-none}
 use borrow.Author.Needs.{needs}

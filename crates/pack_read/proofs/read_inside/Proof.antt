@@ -55,25 +55,25 @@ add-payload : tie.Need-add-payload Inv-loop μ-loop
 add-payload c = omega (arith, c .before .before .before .before .before .before .before .pre .1, c .before .before .before .before .loop-test .taken)
 
 add-payload-2 : tie.Need-add-payload-2 Inv-loop μ-loop
-add-payload-2 c = let w = inner-within _ _ _ _ _ _ (whole (c .before)) in omega (arith, w .0 .inside, c .before .before .before .before .before .before .before .pre .1)
+add-payload-2 c = let w = inner-within _ _ _ _ _ _ (whole (c .before)) in omega (arith, w .inside, c .before .before .before .before .before .before .before .pre .1)
 
 payload-requires : tie.Need-payload-requires Inv-loop μ-loop
 payload-requires c κs =
     let w = inner-within _ _ _ _ _ _ (whole (c .before)) in
     let p = c .before .before .before .before .before .before .before .pre in
-    (p .2, p .3, omega (arith, w .0 .later, w .0 .inside, p .1))
+    (p .2, p .3, omega (arith, w .later, w .inside, p .1))
 
 put-requires : tie.Need-put-requires Inv-loop μ-loop
-put-requires c κs = inner-within _ _ _ _ _ _ (whole (c .before .before .before)) .1
+put-requires c κs = inner-within _ _ _ _ _ _ (whole (c .before .before .before)) .room
 
 add-k : tie.Need-add-k Inv-loop μ-loop
-add-k c = let w = inner-within _ _ _ _ _ _ (whole (c .before .before .before .before)) in omega (arith, w .1)
+add-k c = let w = inner-within _ _ _ _ _ _ (whole (c .before .before .before .before)) in omega (arith, w .room)
 
 add-j : tie.Need-add-j Inv-loop μ-loop
-add-j c = let w = inner-within _ _ _ _ _ _ (whole (c .before .before .before .before)) in omega (arith, w .0 .inside, c .before .before .before .before .before .before .before .before .before .before .pre .1)
+add-j c = let w = inner-within _ _ _ _ _ _ (whole (c .before .before .before .before)) in omega (arith, w .inside, c .before .before .before .before .before .before .before .before .before .before .pre .1)
 
 loop-less : tie.Need-loop-less Inv-loop μ-loop
-loop-less c = let w = inner-within _ _ _ _ _ _ (whole (c .before .before .before .before)) in omega (arith, w .0 .later, w .0 .inside, c .before .before .before .before .before .before .before .loop-test .taken)
+loop-less c = let w = inner-within _ _ _ _ _ _ (whole (c .before .before .before .before)) in omega (arith, w .later, w .inside, c .before .before .before .before .before .before .before .loop-test .taken)
 
 loop-again : tie.Need-loop-again Inv-loop μ-loop
 loop-again c =

@@ -1,5 +1,5 @@
 -- `pack_read::refused` meets its contract: nothing is used.
-use Rattle.pack.specs.Reading.{shown}
+use Rattle.pack.specs.Slots.{shown}
 use borrow.Author.Needs.{needs}
 use Rattle.pack_read.proofs.refused.Statement.{statement}
 use Rattle.pack_read.proofs.refused.Tie as tie

@@ -1,6 +1,6 @@
 -- `pack_read::stopped` meets its contract: nothing is used.
 use mathlib.Core.Path.{refl}
-use Rattle.pack.specs.Reading.{shown}
+use Rattle.pack.specs.Slots.{shown}
 use Rattle.pack_read.proofs.stopped.Statement.{statement}
 use Rattle.pack_read.proofs.stopped.Tie as tie
 

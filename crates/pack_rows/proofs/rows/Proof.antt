@@ -9,11 +9,11 @@ use lib.Seq.{getD-take, length-take-le}
 use Rattle.runs.specs.Digits.{Bytes}
 use Rattle.runs.proofs.Over.{wrote-as}
 use Rattle.runs.proofs.Writing.{Writing, writing-begins, writing-as, writing-run, writing-done}
-use Rattle.pack.specs.Reading.{blank}
-use Rattle.pack.specs.Rows.{ItemFits}
+use Rattle.pack.specs.Slots.{blank}
+use Rattle.pack.specs.Fits.{ItemFits}
 use Rattle.pack.specs.declared.Slot.{Slot}
 use Rattle.pack.specs.declared.Reading.{Reading}
-use Rattle.pack.proofs.Slots.{row-fits}
+use Rattle.pack.proofs.Slots.{slot-fits}
 use Rattle.pack_slots.specs.Slots.{slotItem, slotsIn}
 use Rattle.pack_slots.proofs.Laws.{slot-in}
 use Rattle.pack_read.specs.Shown.{assembled}
@@ -125,7 +125,7 @@ item-row-requires c κs =
     let t = told k in
     let m = length-take-le n items (t .there) in
     subst ItemFits (ap (λ (w : Slot). w .item) (getD-take n items (l .i) blank (omega arith) ∙ slot-in slots (l .i) blank (omega (arith, t .few))) ∙ sym (c .before .item .ensures))
-    (row-fits (take n items) (l .i) blank (t .fit) (omega arith))
+    (slot-fits (take n items) (l .i) blank (t .fit) (omega arith))
 
 put-cell-requires-2 : tie.Need-put-cell-requires-2 Inv-loop μ-loop
 put-cell-requires-2 c κs =

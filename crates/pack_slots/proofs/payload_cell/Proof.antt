@@ -1,6 +1,6 @@
 -- `pack_slots::payload_cell` meets its contract. By the payload's name.
 use borrow.Author.Needs.{needs}
-use Rattle.pack_slots.proofs.Cells.{cell-number, cell-label}
+use Rattle.pack_slots.proofs.Cells.{cell-named}
 use Rattle.pack_slots.proofs.payload_cell.Statement.{statement}
 use Rattle.pack_slots.proofs.payload_cell.Tie as tie
 
@@ -11,10 +11,10 @@ enum-known-name-2 : tie.Need-enum-known-name-2
 enum-known-name-2 c = search needs
 
 returns : tie.Need-returns
-returns c = cell-number _ _ _ (c .before .name .given .1)
+returns c = cell-named _ _ _ (c .before .name .given .1)
 
 returns-2 : tie.Need-returns-2
-returns-2 c = cell-label _ _ _ (c .before .name2 .given .1)
+returns-2 c = cell-named _ _ _ (c .before .name2 .given .1)
 
 pub payload-cell-spec : {M : Type 1} → statement M
 payload-cell-spec = tie.close (tie.spec enum-known-name enum-known-name-2 returns returns-2)

@@ -13,8 +13,8 @@ use borrow.Author.Needs.{needs}
 use borrow.Author.Tests.{not-true, not-false}
 use Rattle.pack.specs.declared.Item.{Item}
 use Rattle.pack.specs.declared.Slot.{Slot}
-use Rattle.pack.specs.Rows.{ItemFits}
-use Rattle.pack.proofs.Slots.{row-fits}
+use Rattle.pack.specs.Fits.{ItemFits}
+use Rattle.pack.proofs.Slots.{slot-fits}
 use Rattle.pack_slots.specs.Slots.{slotsIn}
 use Rattle.pack_slots.proofs.Laws.{length-in, slot-in}
 use Rattle.scrub_sheet.specs.Judged.{asks}
@@ -71,7 +71,7 @@ here c =
     (sym (getD-take (b .args .count) (slotsIn (b .args .slots .now)) (r .before .loop .i) none (r .loop-test .taken) ∙ slot-in (b .args .slots .now) (r .before .loop .i) none (room r)))
 
 fits : (c : tie.After-item Inv-loop μ-loop) → ItemFits (c .item .result)
-fits c = rw (here c) (row-fits (rows (c .before)) _ none ((start (c .before)) .pre .1) (inside (c .before)))
+fits c = rw (here c) (slot-fits (rows (c .before)) _ none ((start (c .before)) .pre .1) (inside (c .before)))
 
 -- its mark is what was asked for, and is put
 value : (m : tie.After-put-mark Inv-loop μ-loop)

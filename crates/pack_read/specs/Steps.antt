@@ -1,0 +1,72 @@
+-- What the steps of a reading and of a check make. No rule of document 01 is stated here.
+use mathlib.Core.Path.{_≡_}
+use mathlib.Core.List.{List, map}
+use mathlib.Core.Bool.{Bool}
+use Prim.Native.Nat.{ℕ, _+_, _≤_}
+use lib.ListN.{length}
+use lib.Seq.{sets}
+use Rattle.refusals.specs.declared.Answer.{Answer}
+use Rattle.refusals.specs.declared.Answer.the-variants as A
+use Rattle.refusals.specs.Outcomes.{Outcome, fine, refused, answered}
+use Rattle.pack.specs.Fixed.{itemCap}
+use Rattle.pack.specs.Payloads.{innersFrom}
+use Rattle.pack.specs.Items.{Body, countOf}
+use Rattle.pack.specs.Reading.{Opening}
+use Rattle.pack.specs.Slots.{slot, slots, blank, padded, shown}
+use Rattle.pack.specs.declared.Payload.{Payload}
+use Rattle.pack.specs.declared.Item.the-variants as I
+use Rattle.pack.specs.declared.Slot.{Slot}
+use Rattle.pack.specs.declared.Reading.{Reading}
+use Rattle.pack_config.specs.Tables.{Tables}
+use Rattle.pack_read.specs.Shown.{outlineOf, assembled}
+use Rattle.pack_read.specs.declared.Outline.{Outline}
+use Rattle.pack_read.specs.declared.Opened.{Opened}
+use Rattle.pack_read.specs.declared.Opened.the-variants as O
+
+-- how many items and payloads there are
+abbrev pub counted : Body → ℕ
+counted b = countOf (b .parts)
+
+-- the count of the payloads of an inside q, with the `used` before them; fuel, if it is enough, does not matter
+pub record InsideTold (q tags : List ℕ) (base used : ℕ) (r : Answer) : Type 0 where
+  pub told : (k : ℕ) → length q ≤ k → r ≡ answered (λ (xs : List Payload). used + length xs) (innersFrom k q tags base 0 used)
+  pub few : (n : ℕ) → r ≡ A.Done n → n ≤ itemCap
+
+-- the payloads of an inside q are told, and stand in the slots from `used` on
+pub record InsideRead (q tags : List ℕ) (base used : ℕ) (r : Answer) (before after : List Slot) : Type 0 where
+  pub inside : InsideTold q tags base used r
+  pub full : (k : ℕ) (xs : List Payload) → length q ≤ k → innersFrom k q tags base 0 used ≡ fine xs → after ≡ sets before used (map (λ (x : Payload). slot (I.Inner x)) xs)
+
+-- how the struct shows the items of a pack whose opening is known: its offset, how many mappings, and their two tables
+unfoldable pub shownBody : ℕ → ℕ → List ℕ → List ℕ → Outcome Body → Reading
+shownBody offset mapped tags places (fine b) = record {
+  answer = A.Done (countOf (b .parts));
+  offset = offset;
+  crc = b .crc;
+  mapped = mapped;
+  tags = tags;
+  labels = places;
+  items = padded itemCap blank (slots (b .parts));
+}
+shownBody offset mapped tags places (refused why place) = shown (refused why place)
+
+-- the outline of a pack whose items are read
+abbrev pub doneOf : ℕ → ℕ → Bool → ℕ → Outline
+doneOf n offset crc mapped = record { answer = A.Done n; offset = offset; crc = crc; mapped = mapped }
+
+-- what `Outlined` says, of the items of a pack whose opening is known, wherever the labels of its mappings stand
+abbrev pub BodyTold : ℕ → ℕ → List ℕ → Outcome Body → Outline → List ℕ → Type 0
+BodyTold offset mapped tags o r slots =
+    (places : List ℕ)
+    → (r ≡ outlineOf (shownBody offset mapped tags places o))
+    × ((n : ℕ) → r .answer ≡ A.Done n → assembled r tags places slots ≡ shownBody offset mapped tags places o)
+
+-- an opening as the code has it: three numbers, or the refusal
+unfoldable pub openedOf : Outcome Opening → Opened
+openedOf (fine o) = O.From (o .offset) (length (o .mappings)) (o .next)
+openedOf (refused why place) = O.Refused why place
+
+-- and the tables of its mappings
+pub record Opens (o : Outcome Opening) (r : Opened) (tags places known : List ℕ) : Type 0 where
+  pub told : r ≡ openedOf o
+  pub tables : (x : Opening) → o ≡ fine x → Tables (x .mappings) tags places known
