@@ -8,6 +8,7 @@ use native.Mathlib.Omega.{arith}
 use lib.Dec.{eqb}
 use lib.ListN.{length, take, drop, length-take, length-drop, length-map}
 use Rattle.runs.specs.Those.{Each}
+use Rattle.runs.proofs.Those.{each-map}
 use Rattle.runs.specs.Digits.{Bytes}
 use Rattle.runs.proofs.Cases.{split}
 use Rattle.runs.proofs.Below.{below-take}
@@ -19,10 +20,15 @@ use Rattle.pack.specs.declared.Name.{Name}
 use Rattle.pack.specs.declared.Name.the-variants.{Label, Number}
 use Rattle.pack.specs.declared.Payload.{Payload}
 use Rattle.pack.specs.declared.Head.{Head}
+use Rattle.pack.specs.declared.Item.{Item}
+use Rattle.pack.specs.declared.Item.the-variants as I
+use Rattle.pack.specs.declared.Slot.{Slot}
 use Rattle.pack.specs.Payloads.{nameFrom, nameOf}
 use Rattle.pack.specs.Config.{Mapping}
 use Rattle.pack.specs.Items.{Part, one, many, syncHead, countOf}
 use Rattle.pack.specs.Reading.{Read, reading}
+use Rattle.pack.specs.Slots.{slots}
+use Rattle.pack.proofs.Slots.{PartItems, slots-each}
 use Rattle.pack_layout.specs.Well.{WellEntries}
 use Rattle.pack_layout.proofs.Parts.{part-bytes}
 use Rattle.pack_layout.proofs.Elements.{payload-next, payload-laid}
@@ -54,6 +60,20 @@ pub record HeadLies (s : List ℕ) (h : Head) (xs : List Payload) : Type 0 where
 abbrev pub PartLies : List ℕ → ℕ → Part → Type 0
 PartLies s mapped (one x) = PayloadLies s mapped x
 PartLies s mapped (many h xs) = HeadLies s h xs × Each (PayloadLies s mapped) xs
+
+-- the same, asked of an item
+abbrev pub ItemLies : List ℕ → ℕ → Item → Type 0
+ItemLies s mapped (I.Single x) = PayloadLies s mapped x
+ItemLies s mapped (I.Inner x) = PayloadLies s mapped x
+ItemLies s mapped (I.Sync h) = (xs : List Payload) × HeadLies s h xs
+
+-- where the parts lie, each slot lies
+pub slots-lie : (s : List ℕ) (mapped : ℕ) (ps : List Part) → Each (PartLies s mapped) ps → Each (λ (w : Slot). ItemLies s mapped (w .item)) (slots ps)
+slots-lie s mapped ps h = slots-each (ItemLies s mapped) ps (each-map items ps h)
+  where
+    items : (p : Part) → PartLies s mapped p → PartItems (ItemLies s mapped) p
+    items (one x) l = l
+    items (many y xs) l = ((xs, l .0), l .1)
 
 pub record LabelLies (s : List ℕ) (m : Mapping) : Type 0 where
   pub ends : m .place + 16 ≤ length s

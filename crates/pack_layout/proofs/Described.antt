@@ -41,7 +41,7 @@ record ElementsDescribed (q : List ℕ) (at n : ℕ) : Type 0 where
   count : length elements ≡ n
 
 inners-described : {q tags : List ℕ} {base at used : ℕ} {ps : List Payload} → Bytes q → InnersRead q tags base at used ps → ElementsDescribed q at (length ps)
-unfolding WellElements elementsBytes
+unfolding elementsBytes
 inners-described {q} b (noneInside h) = record { elements = []; well = tt; stands = drop-of-length-le q h; count = refl }
 inners-described {q} b (nextInside {at = at} t v l e h u r) =
     let d = payload-laid q at t v l b e in
@@ -72,7 +72,7 @@ pub record ChunksDescribed (s : List ℕ) (at n : ℕ) : Type 0 where
 
 module _ (s : List ℕ) (b : Bytes s) where
   crc-described : (at v : ℕ) → payloadAt s at ≡ Whole 3 v 4 → v + 4 ≡ length s → bigAt s v 4 ≡ crcOf (take v s) → ChunksDescribed s at 0
-  unfolding WellChunks chunksBytes chunksCount
+  unfolding chunksBytes chunksCount
   crc-described at v e z c =
       let d = payload-laid s at 3 v 4 b e in
       let value : take 4 (drop v s) ≡ drop v s = take-all 4 (drop v s) (simp length-drop (omega arith)) in
@@ -102,7 +102,7 @@ module _ (s : List ℕ) (b : Bytes s) where
       ∙ ap (λ (y : List ℕ). digits 256 2 (bigAt s (v + 2) 2) ++ y) (ap₂ (λ (m n : ℕ). take m (drop n s)) x (add-assoc v 2 2) ∙ e))
 
   pub items-described : {tags : List ℕ} {at used : ℕ} {parts : List Part} {mark : Bool} → ItemsRead s tags at used parts mark → ChunksDescribed s at (countOf parts)
-  unfolding WellChunks chunksBytes chunksCount countOf
+  unfolding chunksBytes chunksCount countOf
   items-described (ended h) = record {
     chunks = [];
     last = noCrc;
