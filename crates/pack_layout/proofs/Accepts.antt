@@ -23,8 +23,9 @@ use Rattle.pack.specs.declared.Step.{Step}
 use Rattle.pack.specs.declared.Step.the-variants as S
 use Rattle.pack.specs.Payloads.{payloadAt, innerAt, payload, innersFrom}
 use Rattle.pack.specs.Items.{Part, one, many, Body, judged, itemAt, someInside, insideOf, syncHead, with, itemsFrom}
+use Rattle.pack.proofs.Payloads.{payload-within}
 use Rattle.pack_layout.proofs.Outcomes.{after, onward}
-use Rattle.pack_layout.proofs.Elements.{payload-next, payload-laid}
+use Rattle.pack_layout.proofs.Elements.{payload-laid}
 
 -- the payloads of a part q that stands at `base` of the pack, from `at` on, where `used` items and payloads came before
 pub data InnersRead (q tags : List ℕ) (base : ℕ) : ℕ → ℕ → List Payload → Type 0 where
@@ -44,9 +45,9 @@ module _ (q tags : List ℕ) (base : ℕ) where
   unfolding innersFrom
   inners-run zero (noneInside h) g = refl
   inners-run (suc k) (noneInside h) g = simp (le-ltb _ _ h)
-  inners-run zero (nextInside {at = at} t v l e h u r) g = let x = payload-next q at t v l e in absurd (omega arith)
+  inners-run zero (nextInside {at = at} t v l e h u r) g = let x = payload-within q at t v l e in absurd (omega arith)
   inners-run (suc k) (nextInside {at = at} {used = used} t v l e h u r) g =
-      let x = payload-next q at t v l e in
+      let x = payload-within q at t v l e in
       inner-turn k at used t v l (omega arith) e h u
       ∙ onward (λ xs. fine (payload tags (base + at) t (base + v) l ∷ xs)) (inners-run k r (omega arith))
 
@@ -71,7 +72,7 @@ module _ (q tags : List ℕ) (base : ℕ) where
           (λ c. let x = payload tags (base + at) t (base + v) l in
           let above : 3 < t = leb-false _ _ b in
           let room : used < itemCap = leb-false _ _ c in
-          let next = payload-next q at t v l e in
+          let next = payload-within q at t v l e in
           let i = after (innersFrom k q tags base (v + l) (used + 1)) (λ ys. fine (x ∷ ys)) (sym (inner-turn k at used t v l (ltb-true _ _ a) e above room) ∙ h) in
           let z : x ∷ i .0 ≡ xs = (let y = i .2 in cc) in
           subst (InnersRead q tags base at used) z (nextInside t v l e above room (ih (v + l) (used + 1) (i .0) (omega arith) (i .1)))))
@@ -151,15 +152,15 @@ module _ (s tags : List ℕ) where
   unfolding itemsFrom
   items-run zero (ended h) g = refl
   items-run (suc k) (ended h) g = simp (le-ltb _ _ h)
-  items-run zero (closed {at = at} v e z c) g = let x = payload-next s at 3 v 4 e in absurd (omega arith)
-  items-run (suc k) (closed {at = at} {used = used} v e z c) g = let x = payload-next s at 3 v 4 e in turn-crc k at used (omega arith) v e z c
-  items-run zero (nextPlain {at = at} t v l e h u r) g = let x = payload-next s at t v l e in absurd (omega arith)
+  items-run zero (closed {at = at} v e z c) g = let x = payload-within s at 3 v 4 e in absurd (omega arith)
+  items-run (suc k) (closed {at = at} {used = used} v e z c) g = let x = payload-within s at 3 v 4 e in turn-crc k at used (omega arith) v e z c
+  items-run zero (nextPlain {at = at} t v l e h u r) g = let x = payload-within s at t v l e in absurd (omega arith)
   items-run (suc k) (nextPlain {at = at} {used = used} t v l e h u r) g =
-      let x = payload-next s at t v l e in
+      let x = payload-within s at t v l e in
       turn-plain k at used (omega arith) t v l e h u ∙ onward (with (one (payload tags at t v l))) (items-run k r (omega arith))
-  items-run zero (nextSync {at = at} v l xs e h u some ir r) g = let x = payload-next s at 2 v l e in absurd (omega arith)
+  items-run zero (nextSync {at = at} v l xs e h u some ir r) g = let x = payload-within s at 2 v l e in absurd (omega arith)
   items-run (suc k) (nextSync {at = at} {used = used} v l xs e h u n ir r) g =
-      let x = payload-next s at 2 v l e in
+      let x = payload-within s at 2 v l e in
       let q = take (l - 4) (drop (v + 4) s) in
       let inside : insideOf s tags at v l used ≡ fine xs = onward (someInside at) (inners-run q tags (v + 4) l ir (simp length-take (omega arith))) ∙ some at xs n in
       turn-sync k at used (omega arith) v l e h u
@@ -174,14 +175,14 @@ module _ (s tags : List ℕ) where
 
     of-plain : (t v l : ℕ) → payloadAt s at ≡ Whole t v l → 3 < t → used < itemCap → ItemsRead s tags at used (b .parts) (b .crc)
     of-plain t v l e above room =
-        let x = payload-next s at t v l e in
+        let x = payload-within s at t v l e in
         let r = after (itemsFrom k s tags (v + l) (used + 1)) (with (one (payload tags at t v l))) (sym (turn-plain k at used inside t v l e above room) ∙ h) in
         let w = r .2 in
         is (cc) (nextPlain t v l e above room (rest (v + l) (used + 1) (r .0) (omega arith) (r .1)))
 
     of-sync : (v l : ℕ) → payloadAt s at ≡ Whole 2 v l → 4 ≤ l → used < itemCap → ItemsRead s tags at used (b .parts) (b .crc)
     of-sync v l e long room =
-        let x = payload-next s at 2 v l e in
+        let x = payload-within s at 2 v l e in
         let q = take (l - 4) (drop (v + 4) s) in
         let i = after (insideOf s tags at v l used)
         (λ ys. andThen (itemsFrom k s tags (v + l) (used + 1 + length ys)) (with (many (syncHead s at v l ys) ys)))

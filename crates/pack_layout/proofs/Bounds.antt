@@ -29,9 +29,10 @@ use Rattle.pack.specs.Items.{Part, one, many, syncHead, countOf}
 use Rattle.pack.specs.Reading.{Read, reading}
 use Rattle.pack.specs.Slots.{slots}
 use Rattle.pack.proofs.Slots.{PartItems, slots-each}
+use Rattle.pack.proofs.Payloads.{payload-within}
 use Rattle.pack_layout.specs.Well.{WellEntries}
 use Rattle.pack_layout.proofs.Parts.{part-bytes}
-use Rattle.pack_layout.proofs.Elements.{payload-next, payload-laid}
+use Rattle.pack_layout.proofs.Elements.{payload-laid}
 use Rattle.pack_layout.proofs.Accepts.{InnersRead, noneInside, nextInside, ItemsRead, ended, closed, nextPlain, nextSync}
 use Rattle.pack_layout.proofs.Opens.{mappingOf, MappingsRead, noneMapped, nextMapped, OpeningRead, noConfigRead, configRead, reading-of}
 use Rattle.pack_layout.proofs.Counts.{items-count, mappings-count}
@@ -79,9 +80,6 @@ pub record LabelLies (s : List ℕ) (m : Mapping) : Type 0 where
   pub ends : m .place + 16 ≤ length s
   pub is : m .stands ≡ take 16 (drop (m .place) s)
 
-pub start-low : {s : List ℕ} {mapped : ℕ} {x : Payload} → length s ≤ packCap → PayloadLies s mapped x → x .start < packCap
-start-low h p = omega arith
-
 -- what is known of a pack that is accepted
 pub record Accepted (s : List ℕ) (r : Read) : Type 0 where
   pub small : length s ≤ packCap
@@ -107,7 +105,7 @@ inners-lie : (s : List ℕ) {q tags : List ℕ} {base at used : ℕ} {xs : List 
     → Each (PayloadLies s (length tags)) xs
 inners-lie s b room (noneInside h) = tt
 inners-lie s {q} {tags} b room (nextInside {at = at} t v l e h u r) =
-    let x = payload-next q at t v l e in
+    let x = payload-within q at t v l e in
     let d = payload-laid q at t v l b e in
     (record { starts = omega arith; ends = omega arith; named = name-fits tags t h (d .high) }, inners-lie s b room r)
 
@@ -116,15 +114,15 @@ items-lie : (s : List ℕ) {tags : List ℕ} {at used : ℕ} {parts : List Part}
 items-lie s b (ended h) = tt
 items-lie s b (closed v e z c) = tt
 items-lie s {tags} b (nextPlain {at = at} t v l e h u r) =
-    let x = payload-next s at t v l e in
+    let x = payload-within s at t v l e in
     let d = payload-laid s at t v l b e in
-    (record { starts = x .0; ends = x .1; named = name-fits tags t h (d .high) }, items-lie s b r)
+    (record { starts = x .later; ends = x .inside; named = name-fits tags t h (d .high) }, items-lie s b r)
 items-lie s {tags} b (nextSync {at = at} v l xs e h u n inner r) =
-    let x = payload-next s at 2 v l e in
+    let x = payload-within s at 2 v l e in
     let q = take (l - 4) (drop (v + 4) s) in
     let room : v + 4 + length q ≤ length s = simp (length-take, length-drop) (omega arith) in
     let head : HeadLies s (syncHead s at v l xs) xs =
-    record { starts = x .0; ends = x .1; long = h; offset = big-lt s v 2 b; duration = big-lt s (v + 2) 2 b; count = refl; some = n } in
+    record { starts = x .later; ends = x .inside; long = h; offset = big-lt s v 2 b; duration = big-lt s (v + 2) 2 b; count = refl; some = n } in
     ((head, inners-lie s (part-bytes s (v + 4) (l - 4) b) room inner), items-lie s b r)
 
 -- labels that stand in the front of a list stand in it

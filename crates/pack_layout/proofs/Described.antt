@@ -23,10 +23,11 @@ use Rattle.pack.specs.declared.Payload.{Payload}
 use Rattle.pack.specs.Payloads.{payloadAt}
 use Rattle.pack.specs.Config.{Mapping}
 use Rattle.pack.specs.Items.{Part, countOf}
+use Rattle.pack.proofs.Payloads.{payload-within}
 use Rattle.pack_layout.specs.Layout.{Element, Chunk, plain, group, ConfigLaid, noConfig, config, CrcLaid, noCrc, crc, element, elementsBytes, groupBytes, chunksBytes, entriesBytes, configBytes}
 use Rattle.pack_layout.specs.Well.{FormFits, WellElements, WellChunks, WellEntry, WellEntries, WellConfig, chunksCount}
 use Rattle.pack_layout.proofs.Parts.{drop-take, part-bytes, two-bytes}
-use Rattle.pack_layout.proofs.Elements.{payload-next, payload-laid}
+use Rattle.pack_layout.proofs.Elements.{payload-laid}
 use Rattle.pack_layout.proofs.Accepts.{InnersRead, noneInside, nextInside, ItemsRead, ended, closed, nextPlain, nextSync}
 use Rattle.pack_layout.proofs.Opens.{mappingOf, MappingsRead, noneMapped, nextMapped, OpeningRead, noConfigRead, configRead}
 use Rattle.pack_layout.proofs.Entries.{entryOf, entries-more, apart-of}
@@ -129,7 +130,7 @@ module _ (s : List ℕ) (b : Bytes s) where
       }
   items-described (nextSync {at = at} v l ps e h u n inner r) =
       let d = payload-laid s at 2 v l b e in
-      let x = payload-next s at 2 v l e in
+      let x = payload-within s at 2 v l e in
       let j = inners-described (part-bytes s (v + 4) (l - 4) b) inner in
       let i = items-described r in
       let o = bigAt s v 2 in
@@ -194,7 +195,7 @@ unfolding WellConfig configBytes WellEntries
 opening-described s b (noConfigRead none) = record { first = noConfig; well = tt; stands = refl }
 opening-described s b {start = start} (configRead {ms = ms} v l e h r) =
     let d = payload-laid s start 1 v l b e in
-    let x = payload-next s start 1 v l e in
+    let x = payload-within s start 1 v l e in
     let c = take (v + l) s in
     let entries = map entryOf ms in
     let bc = below-take 256 (v + l) s b in

@@ -11,7 +11,6 @@ use Rattle.pack.specs.Config.{Mapping, placesOf}
 use Rattle.pack.specs.Items.{Part, one, many, countOf}
 use Rattle.pack.specs.Reading.{Read}
 use Rattle.pack.specs.Slots.{slot, slots, blank, padded}
-use Rattle.pack.specs.Meaning.{stretch}
 use Rattle.pack.specs.Made.{made}
 use Rattle.pack.proofs.Made.{made-same, place-padded}
 use Rattle.pack.proofs.Slots.{slots-taken}
@@ -22,7 +21,7 @@ use Rattle.pack.specs.declared.Item.{Item}
 use Rattle.pack.specs.declared.Item.the-variants as I
 use Rattle.pack.specs.declared.Slot.{Slot}
 use Rattle.pack_layout.proofs.Bounds.{NameFits, ItemLies, slots-lie, LabelLies, Accepted}
-use Rattle.pack_text.specs.Text.{line, syncFields, labelFields, namedLine, payloadLine, payloadLines, partLines}
+use Rattle.pack_text.specs.Text.{line, syncFields, namedLine, payloadLine, payloadLines, partLines}
 use Rattle.pack_text.specs.Slots.{itemLine, slotLines, NameStands, ItemStands, SlotsStand}
 
 -- the lines of the slots of parts are those of the parts

@@ -1,5 +1,5 @@
 -- `pack_text::put_signed` meets its contract: a number below the middle as it is, another as a minus and what it lacks to 65,536.
-use Prim.Native.Nat.{_+_, _-_, _≤_, _<_}
+use Prim.Native.Nat.{_+_, _-_, _<_}
 use mathlib.Core.Path.{_≡_, ap, _∙_}
 use mathlib.Core.List.{[], _∷_, _++_}
 use borrow.Author.Needs.{needs}
