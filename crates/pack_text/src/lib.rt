@@ -63,6 +63,14 @@ fn decimal_size(n: u64) -> usize
     size
 }
 
+// The capital hex digit of `d`.
+fn hex_digit(d: u8) -> u8
+    requires { ⌜ d < 16 ⌝ }
+    ensures { λ r. ⌜ r ≡ hexDigit d ⌝ }
+{
+    if d < 10 { 48 + d } else { 55 + d }
+}
+
 // Each of the next four writes a field and the byte after it, a space or a newline, and answers the place after that.
 // The caller has seen that they fit.
 
@@ -100,13 +108,6 @@ fn put_signed(out: &mut [u8], at: usize, n: u16, end: u8) -> usize
     }
     out[at] = b'-';
     put_decimal(out, at + 1, 65536 - n as u64, end)
-}
-
-fn hex_digit(d: u8) -> u8
-    requires { ⌜ d < 16 ⌝ }
-    ensures { λ r. ⌜ r ≡ hexDigit d ⌝ }
-{
-    if d < 10 { 48 + d } else { 55 + d }
 }
 
 fn put_hex(out: &mut [u8], at: usize, bytes: &[u8], end: u8) -> usize

@@ -15,12 +15,6 @@ Inv-loop buf₀ n₀ end₀ t6 buf n end = (n ≤ end) × (end ≤ length buf) �
 abbrev μ-loop : tie.MeasureT-loop
 μ-loop buf₀ n₀ end₀ t6 buf n end = end - n
 
-loop-less : tie.Need-loop-less Inv-loop μ-loop
-loop-less c = ⊎-elim (λ w. omega arith) (λ w. omega arith) (c .if2 .came)
-
-loop-again : tie.Need-loop-again Inv-loop μ-loop
-loop-again c = ⊎-elim (λ w. omega arith) (λ w. omega arith) (c .if2 .came)
-
 pub list-input-spec : {M : Type 1} → statement M
 list-input-spec =
     tie.close
@@ -41,8 +35,8 @@ list-input-spec =
     (λ c. search needs)
     (λ c κs. search needs)
     (λ c. search needs)
-    loop-less
-    loop-again
+    (λ c. ⊎-elim (λ w. omega arith) (λ w. omega arith) (c .if2 .came))
+    (λ c. ⊎-elim (λ w. omega arith) (λ w. omega arith) (c .if2 .came))
     (λ c. search needs)
     (λ c. search needs)
     (λ c. search needs)

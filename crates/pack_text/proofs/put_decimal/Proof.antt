@@ -45,17 +45,11 @@ loop-holds c =
       writing-as (ap (λ (k : ℕ). figures k (a .n) ++ (a .end ∷ [])) (sym e)) (field-begins (a .out .now) (a .at) (decimal (a .n)) (a .end) (search needs)),
     )
 
-div-out : tie.Need-div-out Inv-loop μ-loop
-div-out c = subst (λ (m : ℕ). 0 < m) (sym (c .power .ensures)) (power-pos 10 (c .before .before .loop .left - 1) (omega arith))
-
 loop-again : tie.Need-loop-again Inv-loop μ-loop
 loop-again c =
     let a = c .before .before .before .before .before .args in
     let l = c .before .before .loop in
     (omega arith, figures-turn (l .left) (a .n) _ (a .end ∷ []) (omega arith) (ap (λ (p : ℕ). 48 + a .n / p % 10) (c .power .ensures)) (l .inv .1))
-
-same-length : tie.Need-same-length Inv-loop μ-loop
-same-length c = (writing-byte _ [] (last c)) .same
 
 returns : tie.Need-returns Inv-loop μ-loop
 returns c = let a = c .before .before .before .before .args in field-put (decimal (a .n)) (a .end) (writing-done (writing-byte _ [] (last c)))
@@ -70,7 +64,7 @@ put-decimal-spec =
     loop-holds
     (λ c. omega arith)
     (λ c κs. omega arith)
-    div-out
+    (λ c. subst (λ (m : ℕ). 0 < m) (sym (c .power .ensures)) (power-pos 10 (c .before .before .loop .left - 1) (omega arith)))
     (λ c. omega arith)
     (λ c. omega arith)
     (λ c. omega (arith, room (c .before)))
@@ -79,5 +73,5 @@ put-decimal-spec =
     loop-again
     (λ c. omega (arith, last c .room))
     (λ c. omega (arith, last c .room))
-    same-length
+    (λ c. (writing-byte _ [] (last c)) .same)
     returns)

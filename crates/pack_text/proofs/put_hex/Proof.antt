@@ -19,9 +19,7 @@ abbrev μ-loop : tie.MeasureT-loop
 
 -- what is left where the loop goes on, and where it ends
 more : (c : tie.After-shared-slice-known2 Inv-loop μ-loop)
-    → let a = c .before .before .before .before .before .args in
-    let l = c .before .before .loop in
-    l .next + 2 ≤ length (l .out)
+    → let l = c .before .before .loop in l .next + 2 ≤ length (l .out)
 more c =
     let a = c .before .before .before .before .before .args in
     let l = c .before .before .loop in
@@ -48,9 +46,6 @@ loop-again c =
     let l = c .before .before .before .before .loop in
     (omega arith, hex-turn (a .bytes .now) (l .i) (a .end ∷ []) (omega arith) (l .inv .1) (c .before .hex-digit .ensures) (c .hex-digit2 .ensures))
 
-same-length : tie.Need-same-length Inv-loop μ-loop
-same-length c = (writing-byte _ [] (last c)) .same
-
 returns : tie.Need-returns Inv-loop μ-loop
 returns c = let a = c .before .before .before .before .args in field-put (hex (a .bytes .now)) (a .end) (writing-done (writing-byte _ [] (last c)))
 
@@ -73,5 +68,5 @@ put-hex-spec =
     loop-again
     (λ c. omega (arith, last c .room))
     (λ c. omega (arith, last c .room))
-    same-length
+    (λ c. (writing-byte _ [] (last c)) .same)
     returns)

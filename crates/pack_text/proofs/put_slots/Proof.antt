@@ -63,9 +63,6 @@ loop-again c =
     let k = c .before .before .before .before .before in
     (omega arith, writing-run _ _ (left k) (c .before .before .put-item .ensures))
 
-same-length : tie.Need-same-length Inv-loop μ-loop
-same-length c = c .before .loop .inv .1 .same
-
 returns : tie.Need-returns Inv-loop μ-loop
 returns c =
     let a = c .before .before .before .before .args in
@@ -87,5 +84,5 @@ put-slots-spec =
     (λ c. search needs)
     (λ c. omega arith)
     loop-again
-    same-length
+    (λ c. c .before .loop .inv .1 .same)
     returns)
