@@ -38,7 +38,7 @@ length-rows places (w ∷ ws) =
 module _ (places : List ℕ) (k : ℕ) where
   payload-padded : (form : ℕ) (n : Name) (start v l : ℕ) → payloadRow (places ++ replicate k 0) form n start v l ≡ payloadRow places form n start v l
   unfolding payloadRow
-  payload-padded form (Label i) start v l = rw place-padded
+  payload-padded form (Label i) start v l = cc (place-padded k places i)
   payload-padded form (Number t) start v l = refl
 
   pub item-padded : (x : Item) → itemRow (places ++ replicate k 0) x ≡ itemRow places x

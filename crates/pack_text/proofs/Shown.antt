@@ -45,7 +45,7 @@ module _ (s places : List ℕ) where
 module _ (s places : List ℕ) (k : ℕ) where
   name-line : (n : Name) (start len : ℕ) → namedLine s (places ++ replicate k 0) n start len ≡ namedLine s places n start len
   unfolding namedLine
-  name-line (Label i) start len = rw place-padded
+  name-line (Label i) start len = cc (place-padded k places i)
   name-line (Number t) start len = refl
 
   item-line : (y : Item) → itemLine s (places ++ replicate k 0) y ≡ itemLine s places y
