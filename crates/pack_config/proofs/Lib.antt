@@ -1,4 +1,5 @@
 pub mod Names
 pub mod Standing
-pub mod Maps
+pub mod Tables
+mod Maps
 pub mod Openings

@@ -1,19 +1,18 @@
 -- What the loop over the mappings keeps: what is left, after those in the tables, gives the whole.
-use Prim.Native.Nat.{ℕ, zero, suc, _+_, _-_, _<_, _≤_}
+use Prim.Native.Nat.{ℕ, _+_, _-_, _<_, _≤_}
 use mathlib.Core.Path.{_≡_, refl, sym, ap, ap₂, _∙_, subst}
-use mathlib.Core.List.{List, [], _∷_, _++_, map, map-append}
+use mathlib.Core.List.{List, [], _∷_, _++_, map-append}
 use mathlib.Core.Bool.{Bool, true, false, _||_}
 use mathlib.Core.Logic.{_⊎_, inl, inr, ⊎-elim}
-use native.Mathlib.Nat.{zero-add}
-use native.Mathlib.Numerals.{add-one, sub-one}
 use native.Mathlib.Omega.{arith}
 use lib.Dec.{leb, eqb}
-use lib.ListN.{length, getD, set, take, drop, replicate, length-append, length-set, length-map, getD-replicate}
+use lib.ListN.{length, getD, set, take, drop, replicate, length-append, length-set, length-map}
 use lib.Seq.{getD-set-same, getD-set-other}
-use borrow.Author.Tests.{lt-ltb, le-ltb, le-leb, lt-leb, eq-eqb, ne-eqb, eqb-true, eqb-false}
+use borrow.Author.Tests.{eqb-true, eqb-false}
 use Rattle.runs.specs.Same.{same, among, listed}
 use Rattle.runs.proofs.Cases.{split, absurd-eq}
 use Rattle.runs.proofs.Same.{same-true}
+use Rattle.runs.proofs.Those.{each-append}
 use Rattle.refusals.specs.declared.Refusal.{Refusal}
 use Rattle.refusals.specs.declared.Refusal.the-variants as R
 use Rattle.refusals.specs.declared.Answer.{Answer}
@@ -24,94 +23,12 @@ use Rattle.numbers.specs.Tags.{tagAt}
 use Rattle.numbers.proofs.Tags.{tag-next}
 use Rattle.labels.specs.Words.{digestOf}
 use Rattle.pack.specs.Fixed.{utilityLabels}
-use Rattle.pack.specs.Payloads.{nameFrom, nameOf}
-use Rattle.pack.specs.Config.{Mapping, tagsOf, labelsOf, clashes, mappingAt, mappingsFrom}
+use Rattle.pack.specs.Config.{Mapping, tagsOf, labelsOf, placesOf, clashes, mappingAt, mappingsFrom}
 use Rattle.pack.specs.Slots.{padded}
-use Rattle.pack_config.specs.Tables.{indexed, Knows, standing, Inside, Judging, clashing, Empty, Tables, Hold, MapsRead}
-use Rattle.pack.specs.declared.Name.the-variants.{Label}
 use Rattle.pack.proofs.Padded.{length-padded, take-padded, set-padded}
-
--- the definition at one mapping
-maps-end : (k : ℕ) (c : List ℕ) (place : ℕ) (seen : List Mapping) (at : ℕ) → length c ≤ at → mappingsFrom k c place seen at ≡ fine seen
-unfolding mappingsFrom
-maps-end zero c place seen at h = refl
-maps-end (suc k) c place seen at h = simp (le-ltb _ _ h)
-
-maps-refused : (k : ℕ) (c : List ℕ) (place : ℕ) (seen : List Mapping) (at : ℕ) {why : Refusal} {p : ℕ} → 0 < k → at < length c
-    → mappingAt c place seen at ≡ refused why p → mappingsFrom k c place seen at ≡ refused why p
-unfolding mappingsFrom andThen
-maps-refused zero c place seen at s h e = absurd (omega arith)
-maps-refused (suc k) c place seen at s h e = simp (lt-ltb _ _ h, e)
-
-maps-more : (k : ℕ) (c : List ℕ) (place : ℕ) (seen : List Mapping) (at : ℕ) (m : Mapping) → 0 < k → at < length c
-    → mappingAt c place seen at ≡ fine m → mappingsFrom k c place seen at ≡ mappingsFrom (k - 1) c place (seen ++ (m ∷ [])) (m .place + 16)
-unfolding mappingsFrom andThen
-maps-more zero c place seen at m s h e = absurd (omega arith)
-maps-more (suc k) c place seen at m s h e = simp (lt-ltb _ _ h, e, sub-one)
-
--- one mapping, test by test
-module _ (c : List ℕ) (place : ℕ) (seen : List Mapping) (at : ℕ) where
-  at-count : 32 ≤ length seen → mappingAt c place seen at ≡ refused R.Count place
-  unfolding mappingAt
-  at-count h = simp (le-leb _ _ h)
-
-  module _ (h : length seen < 32) where
-    at-bad : tagAt c at ≡ T.Bad → mappingAt c place seen at ≡ refused R.Tag place
-    unfolding mappingAt
-    at-bad e = simp (lt-leb _ _ h, e)
-
-    at-cut : tagAt c at ≡ T.Cut → mappingAt c place seen at ≡ refused R.Config place
-    unfolding mappingAt
-    at-cut e = simp (lt-leb _ _ h, e)
-
-    module _ (t n : ℕ) (e : tagAt c at ≡ T.Tag t n) where
-      at-short : length c - n < 16 → mappingAt c place seen at ≡ refused R.Config place
-      unfolding mappingAt
-      at-short g = simp (lt-leb _ _ h, e, lt-ltb _ _ g)
-
-      at-clash : 16 ≤ length c - n → clashes seen t (take 16 (drop n c)) ≡ true → mappingAt c place seen at ≡ refused R.Map place
-      unfolding mappingAt
-      at-clash g d = simp (lt-leb _ _ h, e, le-ltb _ _ g, d)
-
-      at-fine : 16 ≤ length c - n → clashes seen t (take 16 (drop n c)) ≡ false
-          → mappingAt c place seen at ≡ fine (record { tag = t; stands = take 16 (drop n c); place = n })
-      unfolding mappingAt
-      at-fine g d = simp (lt-leb _ _ h, e, le-ltb _ _ g, d)
-
--- one tag more: its name is its index, and no other tag's name changes
-name-new : (i : ℕ) (tags : List ℕ) (t : ℕ) → among t tags ≡ false → nameFrom i (tags ++ (t ∷ [])) t ≡ Label (i + length tags)
-unfolding nameFrom among
-name-new i [] t h = simp (eq-eqb t t refl) (ap Label (let z : i ≡ i + 0 = omega arith in z))
-name-new i (x ∷ tags) t h =
-    split (eqb x t) (λ e. let z : true ≡ false = simp e at h in absurd-eq (cc))
-    (λ e. simp e (name-new (suc i) tags t (simp e at h) ∙ ap Label (let z : suc i + length tags ≡ i + suc (length tags) = omega arith in z)))
-
-name-kept : (i : ℕ) (tags : List ℕ) (t u : ℕ) → (t ≡ u → ⊥) → nameFrom i (tags ++ (t ∷ [])) u ≡ nameFrom i tags u
-unfolding nameFrom
-name-kept i [] t u h = simp (ne-eqb t u h)
-name-kept i (x ∷ tags) t u h = split (eqb x u) (λ e. simp e) (λ e. simp e (name-kept (suc i) tags t u h))
-
-module _ (tags known : List ℕ) (t n : ℕ) (free : among t tags ≡ false) (is : length tags ≡ n) (g : Knows tags known) where
-  knows-short : t < 128 → length known ≡ 128 → Knows (tags ++ (t ∷ [])) (set known t (n + 1))
-  unfolding indexed
-  knows-short h l u b =
-      split (eqb t u)
-      (λ e.
-      let q : t ≡ u = eqb-true t u e in
-      subst (λ (w : ℕ). nameOf (tags ++ (t ∷ [])) w ≡ indexed (getD (set known t (n + 1)) w 0) w) q
-      (name-new 0 tags t free ∙ ap Label (zero-add (length tags) ∙ is)
-      ∙ sym (ap (λ (k : ℕ). indexed k t) (getD-set-same known t (n + 1) 0 (omega arith) ∙ add-one n))))
-      (λ e.
-      let d : t ≡ u → ⊥ = eqb-false t u e in
-      name-kept 0 tags t u d ∙ g u b ∙ sym (ap (λ (k : ℕ). indexed k u) (getD-set-other known t u (n + 1) 0 (λ q. d (sym q)))))
-
-  knows-long : 128 ≤ t → Knows (tags ++ (t ∷ [])) known
-  knows-long h u b = name-kept 0 tags t u (λ e. absurd (omega arith)) ∙ g u b
-
--- no tag is known at first
-knows-none : Knows [] (replicate 128 0)
-unfolding nameFrom indexed
-knows-none t h = sym (ap (λ (k : ℕ). indexed k t) (getD-replicate 128 t 0 0 h))
+use Rattle.pack.proofs.Turns.{mappings-end, mappings-turn, mapping-count, mapping-bad, mapping-cut, mapping-short, mapping-clash, mapping-fine}
+use Rattle.pack_config.specs.Tables.{Knows, standing, LabelsLie, Judging, Empty, Tables, Hold, MapsRead}
+use Rattle.pack_config.proofs.Tables.{knows-short, knows-long, tables-none, read-refused}
 
 -- one label more
 listed-more : (l : List ℕ) (xs : List (List ℕ)) (x : List ℕ) → listed l (xs ++ (x ∷ [])) ≡ true → (listed l xs ≡ true) ⊎ (same x l ≡ true)
@@ -148,26 +65,12 @@ or-right true b h = absurd-eq (cc)
 or-right false b h = h
 
 -- a mapping that stands has a tag that no earlier one has
-free : (seen : List Mapping) (t : ℕ) (label : List ℕ) → clashes seen t label ≡ false → among t (tagsOf seen) ≡ false
+free : (seen : List Mapping) (t : ℕ) (label : List ℕ) → clashes (tagsOf seen) (labelsOf seen) t label ≡ false → among t (tagsOf seen) ≡ false
 unfolding clashes
 free seen t label h =
     let later = listed label (labelsOf seen) in
     or-left (among t (tagsOf seen)) later
     (or-right (listed label utilityLabels) (among t (tagsOf seen) || later) (or-right (leb t 3) (listed label utilityLabels || (among t (tagsOf seen) || later)) h))
-
-abbrev pub placesOf : List Mapping → List ℕ
-placesOf ms = map (λ (m : Mapping). m .place) ms
-
-inside-more : (c places : List ℕ) (p : ℕ) → Inside c places → p + 16 ≤ length c → Inside c (places ++ (p ∷ []))
-inside-more c [] p g h zero i = h
-inside-more c [] p g h (suc k) i = absurd (omega arith)
-inside-more c (x ∷ places) p g h zero i = g 0 (omega arith)
-inside-more c (x ∷ places) p g h (suc k) i = inside-more c places p (λ j b. g (suc j) (omega arith)) h k (omega arith)
-
--- a refusal says nothing of the tables
-pub read-refused : {o : Outcome (List Mapping)} {why : Refusal} {p : ℕ} {r : Answer} {us vs ws : List ℕ} → o ≡ refused why p → r ≡ A.Refused why p → MapsRead o r us vs ws
-unfolding Hold answered
-read-refused {o} {why} {p} {r} {us} {vs} {ws} e q = subst (λ (x : Outcome (List Mapping)). MapsRead x r us vs ws) (sym e) (record { count = q; tables = tt })
 
 pub record Sofar (c : List ℕ) (place from k : ℕ) (tags places known marks : List ℕ) (n at : ℕ) : Type 0 where
   pub ms : List Mapping
@@ -175,15 +78,12 @@ pub record Sofar (c : List ℕ) (place from k : ℕ) (tags places known marks : 
   pub long : length ms ≡ n
   pub tables : Tables ms tags places known
   pub stand : labelsOf ms ≡ standing c (placesOf ms)
-  pub inside : Inside c (placesOf ms)
+  pub lie : LabelsLie c (placesOf ms)
   pub marked : Marked (labelsOf ms) marks
   pub indexes : length known ≡ 128
   pub digests : length marks ≡ 251
   pub enough : length c ≤ at + fuel
   pub same : mappingsFrom fuel c place ms at ≡ mappingsFrom k c place [] from
-
-pub tables-none : {tags places known : List ℕ} → Empty tags places known → Tables [] tags places known
-tables-none e = record { tagged = e .tagged; placed = e .placed; index = subst (Knows []) (sym (e .index)) knows-none; few = omega arith }
 
 pub sofar-begins : (c : List ℕ) (place from k : ℕ) {tags places known : List ℕ} → Empty tags places known → length c ≤ from + k
     → Sofar c place from k tags places known (replicate 251 0) 0 from
@@ -193,7 +93,7 @@ sofar-begins c place from k {tags} {places} {known} e h = record {
   long = refl;
   tables = tables-none e;
   stand = refl;
-  inside = λ i b. absurd (omega arith);
+  lie = tt;
   marked = marked-none;
   indexes = ap length (e .index);
   digests = refl;
@@ -226,7 +126,7 @@ module _ {c : List ℕ} {place from k : ℕ} {tags places known marks : List ℕ
     tagged = record { few = few; there = omega (arith, few, tags-long) };
     placed = record { few = few; there = omega (arith, few, places-long) };
     index = subst (λ (l : List ℕ). Knows l known) (sym tags-are) (g .tables .index);
-    inside = subst (Inside c) (sym places-are) (g .inside);
+    lie = subst (LabelsLie c) (sym places-are) (g .lie);
     label = h;
     unmarked = λ z.
         split (listed (take 16 (drop next c)) (standing c (take n places)))
@@ -239,55 +139,57 @@ module _ {c : List ℕ} {place from k : ℕ} {tags places known marks : List ℕ
   }
 
   -- MAP as the tables tell it is MAP
-  clash-is : (t : ℕ) (label : List ℕ) {r : Bool} → r ≡ clashing (take n tags) (standing c (take n places)) t label → clashes (g .ms) t label ≡ r
-  unfolding clashes clashing
-  clash-is t label e = sym (e ∙ ap₂ (λ (a : List ℕ) (b : List (List ℕ)). clashing a b t label) tags-are labels-are)
+  clash-is : (t : ℕ) (label : List ℕ) {r : Bool} → r ≡ clashes (take n tags) (standing c (take n places)) t label → clashes (tagsOf (g .ms)) (labelsOf (g .ms)) t label ≡ r
+  clash-is t label e = sym (e ∙ ap₂ (λ (a : List ℕ) (b : List (List ℕ)). clashes a b t label) tags-are labels-are)
 
   pub sofar-ends : length c ≤ at → MapsRead (mappingsFrom k c place [] from) (A.Done n) tags places known
   unfolding Hold answered
   sofar-ends h =
-      let e : fine (g .ms) ≡ mappingsFrom k c place [] from = sym (maps-end (g .fuel) c place (g .ms) at h) ∙ g .same in
+      let e : fine (g .ms) ≡ mappingsFrom k c place [] from = sym (mappings-end c place (g .ms) at (g .fuel) h) ∙ g .same in
       subst (λ (o : Outcome (List Mapping)). MapsRead o (A.Done n) tags places known) e (record { count = ap A.Done (sym (g .long)); tables = g .tables })
 
   module _ (h : at < length c) where
-    some : 0 < g .fuel
-    some = omega (arith, g .enough)
+    turn : {o : Outcome Mapping} → mappingAt c place (g .ms) at ≡ o
+        → mappingsFrom (g .fuel) c place (g .ms) at ≡ andThen o (λ m. mappingsFrom (g .fuel - 1) c place (g .ms ++ (m ∷ [])) (m .place + 16))
+    turn e = mappings-turn c place (g .ms) at (g .fuel - 1) (omega (arith, g .enough)) h e
 
     -- the mapping at this place is refused, whatever the tables hold then
     stopped : {why : Refusal} {p : ℕ} {r : Answer} {us vs ws : List ℕ} → mappingAt c place (g .ms) at ≡ refused why p → r ≡ A.Refused why p
         → MapsRead (mappingsFrom k c place [] from) r us vs ws
-    stopped e q = read-refused (sym (g .same) ∙ maps-refused (g .fuel) c place (g .ms) at some h e) q
+    unfolding andThen
+    stopped e q = read-refused (sym (g .same) ∙ turn e) q
 
     pub sofar-count : {r : Answer} {us vs ws : List ℕ} → 32 ≤ n → r ≡ A.Refused R.Count place → MapsRead (mappingsFrom k c place [] from) r us vs ws
-    sofar-count b q = stopped (at-count c place (g .ms) at (omega (arith, g .long))) q
+    sofar-count b q = stopped (mapping-count c place (g .ms) at (omega (arith, g .long))) q
 
     module _ (b : n < 32) where
       room : length (g .ms) < 32
       room = omega (arith, g .long)
 
       pub sofar-bad : {r : Answer} {us vs ws : List ℕ} → tagAt c at ≡ T.Bad → r ≡ A.Refused R.Tag place → MapsRead (mappingsFrom k c place [] from) r us vs ws
-      sofar-bad e q = stopped (at-bad c place (g .ms) at room e) q
+      sofar-bad e q = stopped (mapping-bad c place (g .ms) at room e) q
 
       pub sofar-cut : {r : Answer} {us vs ws : List ℕ} → tagAt c at ≡ T.Cut → r ≡ A.Refused R.Config place → MapsRead (mappingsFrom k c place [] from) r us vs ws
-      sofar-cut e q = stopped (at-cut c place (g .ms) at room e) q
+      sofar-cut e q = stopped (mapping-cut c place (g .ms) at room e) q
 
       module _ {t m : ℕ} (e : tagAt c at ≡ T.Tag t m) where
         pub sofar-short : {r : Answer} {us vs ws : List ℕ} → length c - m < 16 → r ≡ A.Refused R.Config place → MapsRead (mappingsFrom k c place [] from) r us vs ws
-        sofar-short d q = stopped (at-short c place (g .ms) at room t m e d) q
+        sofar-short d q = stopped (mapping-short c place (g .ms) at room t m e d) q
 
-        module _ (d : 16 ≤ length c - m) {r : Bool} (f : r ≡ clashing (take n tags) (standing c (take n places)) t (take 16 (drop m c))) where
+        module _ (d : 16 ≤ length c - m) {r : Bool} (f : r ≡ clashes (take n tags) (standing c (take n places)) t (take 16 (drop m c))) where
           pub sofar-clash : {a : Answer} {us vs ws : List ℕ} → r ≡ true → a ≡ A.Refused R.Map place → MapsRead (mappingsFrom k c place [] from) a us vs ws
-          sofar-clash i q = stopped (at-clash c place (g .ms) at room t m e d (clash-is t (take 16 (drop m c)) f ∙ i)) q
+          sofar-clash i q = stopped (mapping-clash c place (g .ms) at room t m e d (clash-is t (take 16 (drop m c)) f ∙ i)) q
 
           -- it stands, and goes into the tables
           abbrev new : Mapping
           new = record { tag = t; stands = take 16 (drop m c); place = m }
 
-          stood : r ≡ false → clashes (g .ms) t (take 16 (drop m c)) ≡ false
+          stood : r ≡ false → clashes (tagsOf (g .ms)) (labelsOf (g .ms)) t (take 16 (drop m c)) ≡ false
           stood i = clash-is t (take 16 (drop m c)) f ∙ i
 
           more : {ws : List ℕ} {x : ℕ} → r ≡ false → x ≡ digestOf (take 16 (drop m c)) → x < 251 → length ws ≡ 128 → Knows (tagsOf (g .ms) ++ (t ∷ [])) ws
               → Sofar c place from k (set tags n t) (set places n m) ws (set marks x 1) (n + 1) (m + 16)
+          unfolding andThen
           more {ws} {x} i y z v w =
               let fits : m + 16 ≤ length c = omega arith in
               let later = tag-next c at t m e in
@@ -311,14 +213,14 @@ module _ {c : List ℕ} {place from k : ℕ} {tags places known marks : List ℕ
                     map-append (λ (q : Mapping). q .stands) (g .ms) (new ∷ [])
                     ∙ ap (λ (l : List (List ℕ)). l ++ (take 16 (drop m c) ∷ [])) (g .stand)
                     ∙ sym (ap (standing c) (map-append (λ (q : Mapping). q .place) (g .ms) (new ∷ [])) ∙ map-append (λ (p : ℕ). take 16 (drop p c)) (placesOf (g .ms)) (m ∷ []));
-                inside = subst (Inside c) (sym (map-append (λ (q : Mapping). q .place) (g .ms) (new ∷ []))) (inside-more c (placesOf (g .ms)) m (g .inside) fits);
+                lie = subst (LabelsLie c) (sym (map-append (λ (q : Mapping). q .place) (g .ms) (new ∷ []))) (each-append (λ (p : ℕ). p + 16 ≤ length c) (placesOf (g .ms)) (m ∷ []) (g .lie) (fits, tt));
                 marked =
                     subst (λ (l : List (List ℕ)). Marked l (set marks x 1)) (sym (map-append (λ (q : Mapping). q .stands) (g .ms) (new ∷ [])))
                     (marked-more (labelsOf (g .ms)) marks (take 16 (drop m c)) x y (omega (arith, g .digests)) (g .marked));
                 indexes = v;
                 digests = length-set marks x 1 ∙ g .digests;
                 enough = omega (arith, g .enough);
-                same = sym (maps-more (g .fuel) c place (g .ms) at new some h (at-fine c place (g .ms) at room t m e d (stood i))) ∙ g .same;
+                same = sym (turn (mapping-fine c place (g .ms) at room t m e d (stood i))) ∙ g .same;
               }
 
           pub sofar-known : {x : ℕ} → r ≡ false → x ≡ digestOf (take 16 (drop m c)) → x < 251 → t < 128

@@ -4,7 +4,7 @@ use mathlib.Core.Path.{_≡_, refl, sym, ap, _∙_, subst}
 use mathlib.Core.Bool.{true, false}
 use mathlib.Core.List.{List, [], _++_}
 use native.Mathlib.Omega.{arith}
-use lib.Dec.{ltb, eqb}
+use lib.Dec.{eqb}
 use lib.ListN.{length, getD, take, drop}
 use borrow.Author.Tests.{le-ltb, lt-ltb, eq-eqb, eqb-true}
 use Rattle.runs.specs.Digits.{Bytes}
@@ -19,10 +19,10 @@ use Rattle.numbers.specs.Tags.{tagAt}
 use Rattle.numbers.specs.Big.{bigAt}
 use Rattle.numbers.proofs.Tags.{one-byte, tag-canonical, tag-short}
 use Rattle.pack.specs.Payloads.{tagFound, payloadAt}
-use Rattle.pack.specs.Config.{Mapping, mappingsFrom}
-use Rattle.pack.specs.Reading.{configOf, openingAt}
+use Rattle.pack.specs.Config.{Mapping, mappingsFrom, configMaps}
+use Rattle.pack.specs.Reading.{openingAt}
 use Rattle.pack_config.specs.First.{firstAt}
-use Rattle.pack_config.specs.Tables.{configMaps, MapsRead}
+use Rattle.pack_config.specs.Tables.{MapsRead}
 use Rattle.pack.specs.declared.Found.{Found}
 use Rattle.pack.specs.declared.Found.the-variants.{Whole, Wrong}
 use Rattle.pack_config.specs.declared.First.the-variants as F
@@ -87,10 +87,6 @@ opens-without s at h =
     first-cases (openingAt s at ≡ fine (record { offset = 0; mappings = []; next = at })) s at (λ t w m e q i. absurd-eq (cc))
     (λ t w m e q i. simp (e, q)) (λ why e i. simp e)
 
-config-of : (s : List ℕ) (at v l : ℕ) → configOf s at v l ≡ andThen (configMaps s at v l) (λ ms. fine (record { offset = bigAt s v 2; mappings = ms; next = v + l }))
-unfolding configOf configMaps andThen
-config-of s at v l = split (ltb l 2) (λ q. simp q) (λ q. simp q)
-
 pub opens-with : (s : List ℕ) (at v l : ℕ) → firstAt s at ≡ F.Config v l
     → openingAt s at ≡ andThen (configMaps s at v l) (λ ms. fine (record { offset = bigAt s v 2; mappings = ms; next = v + l }))
 unfolding openingAt
@@ -99,7 +95,7 @@ opens-with s at v l h =
     (λ t w m e q i.
     let x : w ≡ v = cc in
     let y : m ≡ l = cc in
-    simp (e, q, x, y) (config-of s at v l))
+    simp (e, q, x, y))
     (λ t w m e q i. absurd-eq (cc)) (λ why e i. absurd-eq (cc))
 
 -- a Config that is too short, and one that is long enough, whose part ends at x

@@ -7,7 +7,8 @@ use native.Mathlib.Omega.{arith}
 use lib.ListN.{length, take, drop, getD, length-map}
 use lib.Seq.{getD-take, length-take-le}
 use Rattle.runs.specs.Same.{same}
-use Rattle.pack_config.specs.Tables.{standing, Inside}
+use Rattle.runs.proofs.Those.{each-at}
+use Rattle.pack_config.specs.Tables.{standing, LabelsLie}
 
 getD-map : (f : ℕ → List ℕ) (l : List ℕ) (i d : ℕ) → i < length l → getD (map f l) i [] ≡ f (getD l i d)
 getD-map f [] i d h = absurd (omega arith)
@@ -26,7 +27,7 @@ module _ (c places : List ℕ) (n : ℕ) where
       ap (λ (x : List ℕ). same x l) (getD-map (λ (p : ℕ). take 16 (drop p c)) (take n places) i 0 (omega arith) ∙ ap (λ (p : ℕ). take 16 (drop p c)) (getD-take n places i 0 h))
       ∙ sym e ∙ d
 
-pub inside-at : (c places : List ℕ) (n i : ℕ) → i < n → n ≤ length places → Inside c (take n places) → getD places i 0 + 16 ≤ length c
-inside-at c places n i h g f =
+pub lies-at : (c places : List ℕ) (n i : ℕ) → i < n → n ≤ length places → LabelsLie c (take n places) → getD places i 0 + 16 ≤ length c
+lies-at c places n i h g f =
     let m : length (take n places) ≡ n = length-take-le n places g in
-    subst (λ (x : ℕ). x + 16 ≤ length c) (getD-take n places i 0 h) (f i (omega arith))
+    subst (λ (x : ℕ). x + 16 ≤ length c) (getD-take n places i 0 h) (each-at (λ (p : ℕ). p + 16 ≤ length c) (take n places) i 0 f (omega arith))

@@ -1,17 +1,16 @@
 -- The tables in which the code keeps the mappings that it has read: their tags, where their labels stand, and an index of the tags of one byte.
 use mathlib.Core.Path.{_≡_}
-use mathlib.Core.List.{List, [], map}
-use mathlib.Core.Bool.{Bool, false, cond, _||_}
+use mathlib.Core.List.{List, map}
+use mathlib.Core.Bool.{false}
 use Prim.Native.Nat.{ℕ, zero, suc, _+_, _<_, _≤_}
-use lib.Dec.{ltb, leb}
 use lib.ListN.{length, take, drop, getD, replicate}
-use Rattle.runs.specs.Same.{among, listed}
-use Rattle.refusals.specs.declared.Refusal.the-variants as R
+use Rattle.runs.specs.Same.{listed}
+use Rattle.runs.specs.Those.{Each}
 use Rattle.refusals.specs.declared.Answer.{Answer}
 use Rattle.refusals.specs.Outcomes.{Outcome, fine, refused, answered}
-use Rattle.pack.specs.Fixed.{utilityLabels, mappingCap}
+use Rattle.pack.specs.Fixed.{mappingCap}
 use Rattle.pack.specs.Payloads.{nameOf}
-use Rattle.pack.specs.Config.{Mapping, tagsOf, mappingsFrom}
+use Rattle.pack.specs.Config.{Mapping, tagsOf, placesOf}
 use Rattle.pack.specs.Slots.{padded}
 use Rattle.pack.specs.declared.Name.{Name}
 use Rattle.pack.specs.declared.Name.the-variants.{Label, Number}
@@ -30,16 +29,12 @@ indexed (suc i) t = Label i
 abbrev pub Knows : List ℕ → List ℕ → Type 0
 Knows tags known = (t : ℕ) → t < 128 → nameOf tags t ≡ indexed (getD known t 0) t
 
--- the labels of the part c that stand at these places, which are inside it
+-- the labels of the part c that stand at these places, and that they lie in it
 abbrev pub standing : List ℕ → List ℕ → List (List ℕ)
 standing c places = map (λ (p : ℕ). take 16 (drop p c)) places
 
-abbrev pub Inside : List ℕ → List ℕ → Type 0
-Inside c places = (i : ℕ) → i < length places → getD places i 0 + 16 ≤ length c
-
--- MAP, by the tags and labels that are mapped already
-unfoldable pub clashing : List ℕ → List (List ℕ) → ℕ → List ℕ → Bool
-clashing tags labels t label = leb t 3 || (listed label utilityLabels || (among t tags || listed label labels))
+abbrev pub LabelsLie : List ℕ → List ℕ → Type 0
+LabelsLie c places = Each (λ (p : ℕ). p + 16 ≤ length c) places
 
 -- what is asked before a mapping with a label at `at` is judged: the first n places of the tables are in use, and where the label's mark is 0,
 -- it is none of those that stand there
@@ -47,7 +42,7 @@ pub record Judging (c tags places known : List ℕ) (n at mark : ℕ) : Type 0 w
   pub tagged : Filled n tags
   pub placed : Filled n places
   pub index : Knows (take n tags) known
-  pub inside : Inside c (take n places)
+  pub lie : LabelsLie c (take n places)
   pub label : at + 16 ≤ length c
   pub unmarked : mark ≡ 0 → listed (take 16 (drop at c)) (standing c (take n places)) ≡ false
 
@@ -60,7 +55,7 @@ pub record Empty (tags places known : List ℕ) : Type 0 where
 -- the tables hold these mappings
 pub record Tables (ms : List Mapping) (tags places known : List ℕ) : Type 0 where
   pub tagged : tags ≡ padded mappingCap 0 (tagsOf ms)
-  pub placed : places ≡ padded mappingCap 0 (map (λ (m : Mapping). m .place) ms)
+  pub placed : places ≡ padded mappingCap 0 (placesOf ms)
   pub index : Knows (tagsOf ms) known
   pub few : length ms ≤ mappingCap
 
@@ -68,10 +63,6 @@ pub record Tables (ms : List Mapping) (tags places known : List ℕ) : Type 0 wh
 unfoldable pub Hold : Outcome (List Mapping) → List ℕ → List ℕ → List ℕ → Type 0
 Hold (fine ms) tags places known = Tables ms tags places known
 Hold (refused why place) tags places known = Unit
-
--- the mappings of the Config at `at`, whose value runs l bytes from v: its size, then its mappings
-unfoldable pub configMaps : List ℕ → ℕ → ℕ → ℕ → Outcome (List Mapping)
-configMaps s at v l = cond (ltb l 2) (refused R.Config at) (mappingsFrom l (take (v + l) s) at [] (v + 2))
 
 -- what reading mappings gives: how many there are, or the refusal; and the tables
 pub record MapsRead (o : Outcome (List Mapping)) (answer : Answer) (tags places known : List ℕ) : Type 0 where

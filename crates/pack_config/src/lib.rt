@@ -5,8 +5,8 @@ ghost use Prim.Native.Nat.{ℕ, _+_, _≤_};
 ghost use lib.ListN.{length, take, drop};
 ghost use Rattle.runs.specs.Same.{among, listed};
 ghost use Rattle.pack.specs.Payloads.{nameOf};
-ghost use Rattle.pack.specs.Config.{mappingsFrom};
-ghost use Rattle.pack_config.specs.Tables.{Filled, Knows, Inside, standing, Judging, clashing, Empty, MapsRead, configMaps};
+ghost use Rattle.pack.specs.Config.{clashes, mappingsFrom, configMaps};
+ghost use Rattle.pack_config.specs.Tables.{Filled, Knows, LabelsLie, standing, Judging, Empty, MapsRead};
 ghost use Rattle.pack_config.specs.First.{firstAt};
 use numbers::TagRead;
 use pack::Found;
@@ -76,7 +76,7 @@ fn is_mapped(tags: &[u32; 32], mapped: usize, known: &[u8; 128], tag: u32) -> bo
 
 // Whether the label at `at` is one of those that stand at the first `mapped` places.
 fn is_listed(c: &[u8], places: &[u32; 32], mapped: usize, at: usize) -> bool
-    requires { ⌜ Filled mapped (now places) × (at + 16 ≤ length (now c)) × Inside (now c) (take mapped (now places)) ⌝ }
+    requires { ⌜ Filled mapped (now places) × (at + 16 ≤ length (now c)) × LabelsLie (now c) (take mapped (now places)) ⌝ }
     ensures { λ r. ⌜ r ≡ listed (take 16 (drop at (now (c .entry)))) (standing (now (c .entry)) (take mapped (now (places .entry)))) ⌝ }
 {
     let mut i: usize = 0;
@@ -101,7 +101,7 @@ fn clashes(
     mark: u8,
 ) -> bool
     requires { ⌜ Judging (now c) (now tags) (now places) (now known) mapped at mark ⌝ }
-    ensures { λ r. ⌜ r ≡ clashing (take mapped (now (tags .entry))) (standing (now (c .entry)) (take mapped (now (places .entry)))) tag (take 16 (drop at (now (c .entry)))) ⌝ }
+    ensures { λ r. ⌜ r ≡ clashes (take mapped (now (tags .entry))) (standing (now (c .entry)) (take mapped (now (places .entry)))) tag (take 16 (drop at (now (c .entry)))) ⌝ }
 {
     if tag <= 3 {
         return true;

@@ -121,7 +121,7 @@ items-lie s {tags} b (nextSync {at = at} v l xs e h u n inner r) =
     let x = payload-within s at 2 v l e in
     let q = take (l - 4) (drop (v + 4) s) in
     let room : v + 4 + length q ≤ length s = simp (length-take, length-drop) (omega arith) in
-    let head : HeadLies s (syncHead s at v l xs) xs =
+    let head : HeadLies s (syncHead s at v l (length xs)) xs =
     record { starts = x .later; ends = x .inside; long = h; offset = big-lt s v 2 b; duration = big-lt s (v + 2) 2 b; count = refl; some = n } in
     ((head, inners-lie s (part-bytes s (v + 4) (l - 4) b) room inner), items-lie s b r)
 

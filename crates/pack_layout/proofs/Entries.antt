@@ -119,7 +119,7 @@ pub record Apart (seen : List Mapping) (t : ℕ) (stands : List ℕ) : Type 0 wh
   pub newTag : among t (tagsOf seen) ≡ false
   pub newLabel : listed stands (labelsOf seen) ≡ false
 
-pub apart-of : (seen : List Mapping) (t : ℕ) (stands : List ℕ) → clashes seen t stands ≡ false → Apart seen t stands
+pub apart-of : (seen : List Mapping) (t : ℕ) (stands : List ℕ) → clashes (tagsOf seen) (labelsOf seen) t stands ≡ false → Apart seen t stands
 unfolding clashes
 apart-of seen t stands h =
     let i = neither (leb t 3) _ h in
@@ -127,6 +127,6 @@ apart-of seen t stands h =
     let k = neither (among t (tagsOf seen)) _ (j .1) in
     record { above = leb-false _ _ (i .0); free = j .0; newTag = k .0; newLabel = k .1 }
 
-pub apart-run : (seen : List Mapping) (t : ℕ) (stands : List ℕ) → Apart seen t stands → clashes seen t stands ≡ false
+pub apart-run : (seen : List Mapping) (t : ℕ) (stands : List ℕ) → Apart seen t stands → clashes (tagsOf seen) (labelsOf seen) t stands ≡ false
 unfolding clashes
 apart-run seen t stands a = let h = a .above in simp (lt-leb _ _ h, a .free, a .newTag, a .newLabel)

@@ -38,7 +38,7 @@ record GroupLaid (s tags : List ℕ) (labels : List (List ℕ)) (ms : List Entry
   reads : InnersRead (take (length (groupBytes o d xs) - 4) (drop (v + 4) s)) tags (v + 4) 0 (used + 1) found
   count : length found ≡ length xs
   long : 4 ≤ length (groupBytes o d xs)
-  means : meantPart s labels (many (syncHead s at v (length (groupBytes o d xs)) found) found) ≡ sync o d (map (saidElement ms) xs)
+  means : meantPart s labels (many (syncHead s at v (length (groupBytes o d xs)) (length found)) found) ≡ sync o d (map (saidElement ms) xs)
 
 -- the items are read, and mean the chunks cs
 pub record ItemsLaid (s tags : List ℕ) (labels : List (List ℕ)) (ms : List Entry) (at used : ℕ) (cs : List Chunk) (mark : Bool) : Type 0 where
@@ -120,7 +120,7 @@ module _ (s tags : List ℕ) (labels : List (List ℕ)) (ms : List Entry) (names
         let g = group-laid at v used o d xs rest (r .stands) (omega arith) (w .0) in
         let i = items-laid cs (v + l) (used + 1 + length (g .found)) (r .next) (omega (arith, g .count)) (w .1) in
         record {
-          found = many (syncHead s at v l (g .found)) (g .found) ∷ i .found;
+          found = many (syncHead s at v l (length (g .found))) (g .found) ∷ i .found;
           reads = nextSync {used = used} {parts = i .found} v l (g .found) (r .found) (g .long) (omega arith) (omega (arith, g .count, w .0 .some)) (g .reads) (i .reads);
           means = ap₂ (λ (y : SaidItem) (ys : List SaidItem). y ∷ ys) (g .means) (i .means);
         }

@@ -65,5 +65,5 @@ mappings-laid (m ∷ ms) c at seen e u w =
     subst WellEntries (ap (λ (y : List ℕ). map entryOf seen ++ (record { tag = t; stands = y } ∷ ms)) (sym l) ∙ sym (moved seen x ms)) w in
     let more = placed (n + 16) ms in
     subst (λ (y : List ℕ). MappingsRead c at seen (record { tag = t; stands = y; place = n } ∷ more)) l
-    (nextMapped t n (omega arith) a (omega arith) (ap (clashes seen t) l ∙ apart-run seen t (m .stands) apart)
+    (nextMapped t n (omega arith) a (omega arith) (ap (clashes (tagsOf seen) (labelsOf seen) t) l ∙ apart-run seen t (m .stands) apart)
     (mappings-laid ms c (n + 16) (seen ++ (x ∷ [])) e2 (omega (arith, length-append seen (x ∷ []))) well))

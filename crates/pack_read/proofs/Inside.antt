@@ -1,42 +1,29 @@
 -- What a loop over the inside of a Sync keeps: the payloads so far, before what is left, are those of the inside.
-use Prim.Native.Nat.{ℕ, zero, suc, _+_, _-_, _<_, _≤_}
+use Prim.Native.Nat.{ℕ, _+_, _-_, _<_, _≤_}
 use mathlib.Core.Path.{_≡_, refl, sym, ap, _∙_}
 use mathlib.Core.List.{List, [], _∷_, _++_, append-assoc, append-nil}
 use native.Mathlib.Nat.{add-zero}
-use native.Mathlib.Numerals.{sub-one}
 use native.Mathlib.Omega.{arith}
 use lib.ListN.{length, length-append}
-use borrow.Author.Tests.{le-ltb, lt-ltb}
+use Rattle.runs.proofs.Cases.{absurd-eq}
 use Rattle.refusals.specs.declared.Refusal.{Refusal}
+use Rattle.refusals.specs.declared.Answer.{Answer}
+use Rattle.refusals.specs.declared.Answer.the-variants as A
 use Rattle.refusals.specs.Outcomes.{Outcome, fine, refused, andThen}
 use Rattle.pack.specs.Payloads.{innerAt, payload, innersFrom}
 use Rattle.pack.specs.declared.Payload.{Payload}
+use Rattle.pack.specs.declared.Found.{Found}
 use Rattle.pack.specs.declared.Found.the-variants.{Whole, Wrong}
+use Rattle.refusals.proofs.Lent.{answers, counts}
+use Rattle.pack.proofs.Outcomes.{then-fine, then-refused, then-then, then-same, then-id}
 use Rattle.pack.proofs.Payloads.{inner-within}
-use Rattle.pack_read.proofs.Outcomes.{then-fine, then-refused, then-then, then-same, then-id}
-
--- the definition at one payload
-inners-end : (k : ℕ) (q tags : List ℕ) (base at used : ℕ) → length q ≤ at → innersFrom k q tags base at used ≡ fine []
-unfolding innersFrom
-inners-end zero q tags base at used h = refl
-inners-end (suc k) q tags base at used h = simp (le-ltb _ _ h)
-
-inners-refused : (k : ℕ) (q tags : List ℕ) (base at used : ℕ) {why : Refusal} → 0 < k → at < length q → innerAt q at used ≡ Wrong why
-    → innersFrom k q tags base at used ≡ refused why (base + at)
-unfolding innersFrom
-inners-refused zero q tags base at used s h e = absurd (omega arith)
-inners-refused (suc k) q tags base at used s h e = simp (lt-ltb _ _ h, e)
-
-inners-more : (k : ℕ) (q tags : List ℕ) (base at used t v l : ℕ) → 0 < k → at < length q → innerAt q at used ≡ Whole t v l
-    → innersFrom k q tags base at used ≡ andThen (innersFrom (k - 1) q tags base (v + l) (used + 1)) (λ xs. fine (payload tags (base + at) t (base + v) l ∷ xs))
-unfolding innersFrom
-inners-more zero q tags base at used t v l s h e = absurd (omega arith)
-inners-more (suc k) q tags base at used t v l s h e = simp (lt-ltb _ _ h, e, sub-one)
+use Rattle.pack.proofs.Turns.{innersOn, inners-end, inners-turn}
+use Rattle.pack_read.specs.Counts.{InsideTold}
 
 abbrev after : {A : Type 0} → List A → List A → Outcome (List A)
 after xs ys = fine (xs ++ ys)
 
-pub record Inside (q tags : List ℕ) (base fuel₀ used : ℕ) (xs : List Payload) (k j : ℕ) : Type 0 where
+pub record WithinSync (q tags : List ℕ) (base fuel₀ used : ℕ) (xs : List Payload) (k j : ℕ) : Type 0 where
   pub fuel : ℕ
   pub room : k ≤ 64
   pub long : used + length xs ≡ k
@@ -44,7 +31,7 @@ pub record Inside (q tags : List ℕ) (base fuel₀ used : ℕ) (xs : List Paylo
   pub enough : length q ≤ j + fuel
   pub same : andThen (innersFrom fuel q tags base j k) (after xs) ≡ innersFrom fuel₀ q tags base 0 used
 
-pub inside-begins : (q tags : List ℕ) (base fuel used : ℕ) → used ≤ 64 → length q ≤ fuel → Inside q tags base fuel used [] used 0
+pub inside-begins : (q tags : List ℕ) (base fuel used : ℕ) → used ≤ 64 → length q ≤ fuel → WithinSync q tags base fuel used [] used 0
 inside-begins q tags base fuel used h g = record {
   fuel = fuel;
   room = h;
@@ -54,18 +41,18 @@ inside-begins q tags base fuel used h g = record {
   same = then-id (after []) (λ x. refl) (innersFrom fuel q tags base 0 used);
 }
 
-module _ {q tags : List ℕ} {base fuel₀ used : ℕ} {xs : List Payload} {k j : ℕ} (g : Inside q tags base fuel₀ used xs k j) where
+module _ {q tags : List ℕ} {base fuel₀ used : ℕ} {xs : List Payload} {k j : ℕ} (g : WithinSync q tags base fuel₀ used xs k j) where
   pub inside-ends : length q ≤ j → innersFrom fuel₀ q tags base 0 used ≡ fine xs
-  inside-ends h = sym (g .same) ∙ then-fine (after xs) (inners-end (g .fuel) q tags base j k h) ∙ ap fine (append-nil xs)
+  inside-ends h = sym (g .same) ∙ then-fine (after xs) (inners-end q tags base j k (g .fuel) h) ∙ ap fine (append-nil xs)
 
   module _ (h : j < length q) where
-    some : 0 < g .fuel
-    some = omega (arith, g .enough)
+    turn : {r : Found} → innerAt q j k ≡ r → innersFrom (g .fuel) q tags base j k ≡ innersOn q tags base j k (g .fuel - 1) r
+    turn e = inners-turn q tags base j k (g .fuel - 1) (omega (arith, g .enough)) h e
 
     pub inside-stops : {why : Refusal} → innerAt q j k ≡ Wrong why → innersFrom fuel₀ q tags base 0 used ≡ refused why (base + j)
-    inside-stops e = sym (g .same) ∙ then-refused (after xs) (inners-refused (g .fuel) q tags base j k some h e)
+    inside-stops e = sym (g .same) ∙ then-refused (after xs) (turn e)
 
-    pub inside-on : {t v l : ℕ} → innerAt q j k ≡ Whole t v l → Inside q tags base fuel₀ used (xs ++ (payload tags (base + j) t (base + v) l ∷ [])) (k + 1) (v + l)
+    pub inside-on : {t v l : ℕ} → innerAt q j k ≡ Whole t v l → WithinSync q tags base fuel₀ used (xs ++ (payload tags (base + j) t (base + v) l ∷ [])) (k + 1) (v + l)
     unfolding andThen
     inside-on {t} {v} {l} e =
         let w = inner-within q j k t v l e in
@@ -80,6 +67,22 @@ module _ {q tags : List ℕ} {base fuel₀ used : ℕ} {xs : List Payload} {k j 
           same =
               then-same (after (xs ++ (x ∷ []))) (λ ys. after xs (x ∷ ys)) (λ ys. ap fine (append-assoc xs (x ∷ []) ys)) left
               ∙ sym (then-then left (λ ys. fine (x ∷ ys)) (after xs))
-              ∙ ap (λ (o : Outcome (List Payload)). andThen o (after xs)) (sym (inners-more (g .fuel) q tags base j k t v l some h e))
+              ∙ ap (λ (o : Outcome (List Payload)). andThen o (after xs)) (sym (turn e))
               ∙ g .same;
         }
+
+-- the same for some payloads
+pub record SomeWithin (q tags : List ℕ) (base fuel used k j : ℕ) : Type 0 where
+  pub xs : List Payload
+  pub inside : WithinSync q tags base fuel used xs k j
+
+-- what is told when the loop is through, and where it stops
+module _ {q tags : List ℕ} {base used k j : ℕ} (g : (fuel : ℕ) → length q ≤ fuel → SomeWithin q tags base fuel used k j) where
+  pub inside-done : length q ≤ j → InsideTold q tags base used (A.Done k)
+  inside-done z = record {
+    told = λ fuel h. let w = g fuel h .inside in counts (λ (xs : List Payload). used + length xs) (inside-ends w z) (ap A.Done (sym (w .long)));
+    few = λ n e. let x : k ≡ n = cc in omega (arith, g (length q) (omega arith) .inside .room);
+  }
+
+  pub inside-refused : j < length q → {why : Refusal} → innerAt q j k ≡ Wrong why → {r : Answer} → r ≡ A.Refused why (base + j) → InsideTold q tags base used r
+  inside-refused h e i = record { told = λ fuel l. answers _ (inside-stops (g fuel l .inside) h e) i; few = λ n d. absurd-eq (cc) }

@@ -10,20 +10,22 @@ use Rattle.runs.proofs.Cases.{split, absurd-eq}
 use Rattle.refusals.specs.declared.Refusal.{Refusal}
 use Rattle.refusals.specs.declared.Answer.{Answer}
 use Rattle.refusals.specs.declared.Answer.the-variants as A
-use Rattle.refusals.specs.Outcomes.{Outcome, fine, refused, andThen}
+use Rattle.refusals.specs.Outcomes.{Outcome, fine, refused, andThen, answered}
 use Rattle.numbers.specs.Big.{bigAt}
-use Rattle.pack.specs.Config.{Mapping, tagsOf}
-use Rattle.pack.specs.Items.{Body, itemsFrom}
-use Rattle.pack.specs.Reading.{Read, valueStart, Opening, openingAt, readFrom, reading}
+use Rattle.pack.specs.Config.{Mapping, tagsOf, configMaps}
+use Rattle.pack.specs.Items.{Body, itemsFrom, countOf}
+use Rattle.pack.specs.Reading.{Read, valueStart, Opening, openingAt, readFrom, reading, checked}
 use Rattle.pack.specs.Slots.{shown}
+use Rattle.refusals.proofs.Lent.{answers, refused-was, done-was}
+use Rattle.pack.proofs.Outcomes.{then-fine, then-refused, then-then}
 use Rattle.pack.proofs.Padded.{take-padded, length-padded}
 use Rattle.pack.proofs.Start.{start-small}
 use Rattle.pack_config.specs.First.{firstAt}
-use Rattle.pack_config.specs.Tables.{Filled, Knows, Empty, Tables, Hold, MapsRead, configMaps}
+use Rattle.pack_config.specs.Tables.{Filled, Knows, Empty, Tables, Hold, MapsRead}
 use Rattle.pack_config.specs.declared.First.the-variants as F
-use Rattle.pack_config.proofs.Maps.{tables-none}
+use Rattle.pack_config.proofs.Tables.{tables-none}
 use Rattle.pack_config.proofs.Openings.{opens-without, opens-with, maps-short}
-use Rattle.pack_read.proofs.Outcomes.{then-fine, then-refused, then-then, fine-of, refused-of}
+use Rattle.pack_read.specs.Counts.{counted}
 use Rattle.pack_read.specs.Shown.{shownBody, outlineOf, Outlined, BodyTold, openedOf, Opens}
 use Rattle.pack_read.specs.declared.Outline.{Outline}
 use Rattle.pack_read.specs.declared.Opened.{Opened}
@@ -51,20 +53,19 @@ module _ (s : List ℕ) {tags places known : List ℕ} where
 
     module _ {v l : ℕ} (e : firstAt s at ≡ F.Config v l) {m : Answer} (g : MapsRead (configMaps s at v l) m tags places known) where
       pub open-stops : {why : Refusal} {p : ℕ} → m ≡ A.Refused why p → Opens (opening s) (O.Refused why p) tags places known
-      open-stops d = stops (then-fine (openingAt s) h ∙ opens-with s at v l e ∙ then-refused _ (refused-of length _ (sym d ∙ g .count)))
+      open-stops d = stops (then-fine (openingAt s) h ∙ opens-with s at v l e ∙ then-refused _ (refused-was length (g .count) d))
 
       pub open-with : {n f : ℕ} → m ≡ A.Done n → f ≡ bigAt s v 2 → Opens (opening s) (O.From f n (v + l)) tags places known
       open-with {n} {f} d b =
-          fine-of length (configMaps s at v l) (Opens (opening s) (O.From f n (v + l)) tags places known) (sym d ∙ g .count)
-          (λ ms q i.
-          subst (λ (o : Opened). Opens (opening s) o tags places known) (ap₂ (λ (x k : ℕ). O.From x k (v + l)) (sym b) (sym i))
-          (begins (then-fine (openingAt s) h ∙ opens-with s at v l e ∙ then-fine _ q) (subst (λ (o : Outcome (List Mapping)). Hold o tags places known) q (g .tables))))
+          let m = done-was length (g .count) d in
+          subst (λ (o : Opened). Opens (opening s) o tags places known) (ap₂ (λ (x k : ℕ). O.From x k (v + l)) (sym b) (m .2))
+          (begins (then-fine (openingAt s) h ∙ opens-with s at v l e ∙ then-fine _ (m .1)) (subst (λ (o : Outcome (List Mapping)). Hold o tags places known) (m .1) (g .tables)))
 
       -- a Config whose mappings were read has its two bytes of offset
       pub open-sized : {n : ℕ} → m ≡ A.Done n → 2 ≤ l
       open-sized {n} d =
           split (ltb l 2)
-          (λ b. fine-of length (configMaps s at v l) (2 ≤ l) (sym d ∙ g .count) (λ ms q i. let z = sym q ∙ maps-short s at v l (ltb-true _ _ b) in absurd-eq (cc)))
+          (λ b. let z = sym (done-was length (g .count) d .1) ∙ maps-short s at v l (ltb-true _ _ b) in absurd-eq (cc))
           (λ b. ltb-false _ _ b)
 
 -- what is told of an opening
@@ -85,6 +86,13 @@ unfolding andThen
 small s (fine at) e h = start-small s at e
 small s (refused why p) e h = absurd-eq (cc)
 
+-- the count of a reading is that of its items
+answered-with : (o : Outcome Body) (g : Body → Read) → ((b : Body) → g b .body ≡ b)
+    → answered (λ (r : Read). countOf (r .body .parts)) (andThen o (λ b. fine (g b))) ≡ answered counted o
+unfolding andThen answered
+answered-with (fine b) g h = ap (λ (x : Body). A.Done (countOf (x .parts))) (h b)
+answered-with (refused why p) g h = refl
+
 -- the reading, by the opening
 whole : (s : List ℕ) → reading s ≡ andThen (opening s) (readFrom s)
 unfolding reading
@@ -101,6 +109,10 @@ module _ (s : List ℕ) {r : Opened} {tags places known : List ℕ} (g : Opens (
   whole-refused : {why : Refusal} {p : ℕ} → r ≡ O.Refused why p → reading s ≡ refused why p
   whole-refused e = whole s ∙ then-refused (readFrom s) (told-refused (opening s) (sym e ∙ g .told))
 
+  pub checked-refused : {why : Refusal} {p : ℕ} {a : Answer} → r ≡ O.Refused why p → a ≡ A.Refused why p → a ≡ checked s
+  unfolding checked
+  checked-refused e q = answers _ (whole-refused e) q
+
   pub outlined-refused : {why : Refusal} {p : ℕ} {o : Outline} {slots : List ℕ} → r ≡ O.Refused why p → o ≡ outlineOf (shown (refused why p))
       → Outlined s o slots tags places
   unfolding shown
@@ -113,6 +125,9 @@ module _ (s : List ℕ) {r : Opened} {tags places known : List ℕ} (g : Opens (
         told-from (opening s) P (sym e ∙ g .told)
         (λ x q a b d. k x q (subst (λ (o : Outcome (List Mapping)). Hold o tags places known) (then-fine _ q) (g .tables)) a b d)
 
+    pub opened-small : length s ≤ 32768
+    opened-small = from (length s ≤ 32768) (λ x q t a b d. small s (valueStart s) refl q)
+
     -- the first m places of the tables hold the mappings
     tags-are : (x : Opening) → Tables (x .mappings) tags places known → m ≡ length (x .mappings) → take m tags ≡ tagsOf (x .mappings)
     tags-are x t b =
@@ -123,7 +138,7 @@ module _ (s : List ℕ) {r : Opened} {tags places known : List ℕ} (g : Opens (
         from ((length s ≤ 32768) × Filled m tags × Knows (take m tags) known × (slots ≡ replicate 512 0))
         (λ x q t a b d.
         let l : length tags ≡ 32 = ap length (t .tagged) ∙ length-padded 32 0 (tagsOf (x .mappings)) m (length-map (x .mappings) (λ (y : Mapping). y .tag) ∙ sym b) (omega (arith, t .few)) in (
-          small s (valueStart s) refl q,
+          opened-small,
           record { few = omega (arith, t .few); there = omega (arith, t .few) },
           subst (λ (u : List ℕ). Knows u known) (sym (tags-are x t b)) (t .index),
           none,
@@ -141,3 +156,15 @@ module _ (s : List ℕ) {r : Opened} {tags places known : List ℕ} (g : Opens (
 
     pub outlined-from : {o : Outline} {slots : List ℕ} → BodyTold f m tags (itemsFrom (length s) s (take m tags) n 0) o slots → Outlined s o slots tags places
     outlined-from b = record { told = b places .0 ∙ ap outlineOf whole-from; whole = λ k h. b places .1 k h ∙ whole-from }
+
+    -- a count of the items that holds for any tags
+    pub checked-from : {a : Answer} → ((ts : List ℕ) → a ≡ answered counted (itemsFrom (length s) s ts n 0)) → a ≡ checked s
+    unfolding checked readFrom
+    checked-from {a} h =
+        from (a ≡ checked s)
+        (λ x q t f m d.
+        h (tagsOf (x .mappings))
+        ∙ ap (λ (k : ℕ). answered counted (itemsFrom (length s) s (tagsOf (x .mappings)) k 0)) d
+        ∙ sym
+        (ap (answered (λ (b : Read). countOf (b .body .parts))) (whole s ∙ then-fine (readFrom s) q)
+        ∙ answered-with (itemsFrom (length s) s (tagsOf (x .mappings)) (x .next) 0) (λ b. record { offset = x .offset; mappings = x .mappings; body = b }) (λ b. refl)))

@@ -6,10 +6,9 @@ use native.Mathlib.Numerals.{add-one}
 use native.Mathlib.Omega.{arith}
 use lib.ListN.{length, set, take, replicate, length-append, length-map}
 use lib.Seq.{sets, set-comm, take-all, take-suc, length-take-le}
-use Rattle.pack.specs.Items.{Part, one, many, countOf}
+use Rattle.pack.specs.Items.{Part, one, many}
 use Rattle.pack.specs.Slots.{slot, slots, blank, padded}
 use Rattle.pack.specs.declared.Payload.{Payload}
-use Rattle.pack.specs.declared.Head.{Head}
 use Rattle.pack.specs.declared.Item.{Item}
 use Rattle.pack.specs.declared.Item.the-variants as I
 use Rattle.pack.specs.declared.Slot.{Slot}
@@ -20,28 +19,14 @@ use Rattle.pack_slots.proofs.Laws.{length-in, slot-in}
 abbrev pub innerSlot : Payload → Slot
 innerSlot x = slot (I.Inner x)
 
--- so many slots as items and payloads
-pub length-slots : (ps : List Part) → length (slots ps) ≡ countOf ps
-unfolding slots countOf
-length-slots [] = refl
-length-slots (one x ∷ ps) = omega (arith, length-slots ps)
-length-slots (many h xs ∷ ps) = omega (arith, length-slots ps, length-append (map innerSlot xs) (slots ps), length-map xs innerSlot)
-
-pub slots-one : (ps : List Part) (x : Payload) → slots (ps ++ (one x ∷ [])) ≡ slots ps ++ (slot (I.Single x) ∷ [])
+-- one part more
+pub slots-more : (ps : List Part) (x : Part) → slots (ps ++ (x ∷ [])) ≡ slots ps ++ slots (x ∷ [])
 unfolding slots
-slots-one [] x = refl
-slots-one (one y ∷ ps) x = ap (λ (l : List Slot). slot (I.Single y) ∷ l) (slots-one ps x)
-slots-one (many h ys ∷ ps) x =
+slots-more [] x = refl
+slots-more (one y ∷ ps) x = ap (λ (l : List Slot). slot (I.Single y) ∷ l) (slots-more ps x)
+slots-more (many h ys ∷ ps) x =
     ap (λ (l : List Slot). slot (I.Sync h) ∷ l)
-    (ap (λ (l : List Slot). map innerSlot ys ++ l) (slots-one ps x) ∙ sym (append-assoc (map innerSlot ys) (slots ps) (slot (I.Single x) ∷ [])))
-
-pub slots-many : (ps : List Part) (h : Head) (xs : List Payload) → slots (ps ++ (many h xs ∷ [])) ≡ slots ps ++ (slot (I.Sync h) ∷ map innerSlot xs)
-unfolding slots
-slots-many [] h xs = ap (λ (l : List Slot). slot (I.Sync h) ∷ l) (append-nil (map innerSlot xs))
-slots-many (one y ∷ ps) h xs = ap (λ (l : List Slot). slot (I.Single y) ∷ l) (slots-many ps h xs)
-slots-many (many g ys ∷ ps) h xs =
-    ap (λ (l : List Slot). slot (I.Sync g) ∷ l)
-    (ap (λ (l : List Slot). map innerSlot ys ++ l) (slots-many ps h xs) ∙ sym (append-assoc (map innerSlot ys) (slots ps) (slot (I.Sync h) ∷ map innerSlot xs)))
+    (ap (λ (l : List Slot). map innerSlot ys ++ l) (slots-more ps x) ∙ sym (append-assoc (map innerSlot ys) (slots ps) (slots (x ∷ []))))
 
 -- a run of stores: the array is the padding of so many more
 pub sets-padded : {A : Type 0} (cap : ℕ) (z : A) (xs : List A) (n : ℕ) (ys : List A) → length xs ≡ n → n + length ys ≤ cap

@@ -1,13 +1,13 @@
 -- What the steps of a reading make. No rule of document 01 is stated here.
 use mathlib.Core.Path.{_≡_}
 use mathlib.Core.List.{List, map}
-use Prim.Native.Nat.{ℕ, _+_, _≤_}
+use mathlib.Core.Bool.{Bool}
+use Prim.Native.Nat.{ℕ, _≤_}
 use lib.ListN.{length}
 use lib.Seq.{sets}
 use Rattle.refusals.specs.declared.Answer.{Answer}
 use Rattle.refusals.specs.declared.Answer.the-variants as A
-use Rattle.refusals.specs.Outcomes.{Outcome, fine, refused, andThen, answered}
-use Rattle.numbers.specs.Big.{bigAt}
+use Rattle.refusals.specs.Outcomes.{Outcome, fine, refused, andThen}
 use Rattle.pack.specs.Fixed.{itemCap}
 use Rattle.pack.specs.Config.{Mapping}
 use Rattle.pack.specs.Payloads.{innersFrom}
@@ -15,24 +15,19 @@ use Rattle.pack.specs.Items.{Body, countOf}
 use Rattle.pack.specs.Reading.{Opening, reading}
 use Rattle.pack.specs.Slots.{slot, slots, blank, padded, shown}
 use Rattle.pack.specs.declared.Payload.{Payload}
-use Rattle.pack.specs.declared.Head.{Head}
 use Rattle.pack.specs.declared.Item.the-variants as I
 use Rattle.pack.specs.declared.Slot.{Slot}
 use Rattle.pack.specs.declared.Reading.{Reading}
 use Rattle.pack_config.specs.Tables.{Hold}
 use Rattle.pack_slots.specs.Slots.{slotsIn}
+use Rattle.pack_read.specs.Counts.{InsideTold}
 use Rattle.pack_read.specs.declared.Outline.{Outline}
 use Rattle.pack_read.specs.declared.Opened.{Opened}
 use Rattle.pack_read.specs.declared.Opened.the-variants as O
 
--- a Sync with m payloads inside
-abbrev pub headOf : List ℕ → ℕ → ℕ → ℕ → ℕ → Head
-headOf s at v l m = record { start = at; «value_start» = v; «value_len» = l; offset = bigAt s v 2; duration = bigAt s (v + 2) 2; inside = m }
-
--- the payloads of an inside q stand in the slots from `used` on; fuel, if it is enough, does not matter
+-- the payloads of an inside q are told, and stand in the slots from `used` on
 pub record InsideRead (q tags : List ℕ) (base used : ℕ) (r : Answer) (before after : List Slot) : Type 0 where
-  pub told : (k : ℕ) → length q ≤ k → r ≡ answered (λ (xs : List Payload). used + length xs) (innersFrom k q tags base 0 used)
-  pub few : (n : ℕ) → r ≡ A.Done n → n ≤ itemCap
+  pub inside : InsideTold q tags base used r
   pub full : (k : ℕ) (xs : List Payload) → length q ≤ k → innersFrom k q tags base 0 used ≡ fine xs → after ≡ sets before used (map (λ (x : Payload). slot (I.Inner x)) xs)
 
 -- how the struct shows the items of a pack whose opening is known: its offset, how many mappings, and their two tables
@@ -51,6 +46,10 @@ shownBody offset mapped tags places (refused why place) = shown (refused why pla
 -- what is read beside the slots and the mappings
 abbrev pub outlineOf : Reading → Outline
 outlineOf f = record { answer = f .answer; offset = f .offset; crc = f .crc; mapped = f .mapped }
+
+-- the outline of a pack whose items are read
+abbrev pub doneOf : ℕ → ℕ → Bool → ℕ → Outline
+doneOf n offset crc mapped = record { answer = A.Done n; offset = offset; crc = crc; mapped = mapped }
 
 -- a reading's struct from its outline and what the arrays hold
 abbrev pub assembled : Outline → List ℕ → List ℕ → List ℕ → Reading

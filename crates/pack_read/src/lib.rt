@@ -4,16 +4,16 @@ ghost use mathlib.Core.List.{List};
 ghost use Prim.Native.Nat.{ℕ, _+_, _≤_};
 ghost use lib.ListN.{length, take, replicate};
 ghost use Rattle.refusals.specs.Outcomes.{answered, Outcome, andThen};
-ghost use Rattle.pack.specs.Items.{crcGood, itemsFrom};
+ghost use Rattle.pack.specs.Items.{crcGood, syncHead, itemsFrom};
 ghost use Rattle.pack.specs.Reading.{openingAt, checked, valueStart, reading};
 ghost use Rattle.pack.specs.Slots.{blank, shown};
-ghost use Rattle.pack_read.specs.Counts.{counted, InsideCounted, nextOf, configNext};
+ghost use Rattle.pack_read.specs.Counts.{counted, InsideTold};
 ghost use Rattle.pack.specs.Fixed.{mappingCap};
 ghost use Rattle.pack.specs.Payloads.{payload};
 ghost use Rattle.pack.specs.Meaning.{stretchIn, valueOf, labelAt};
 ghost use Rattle.pack_config.specs.Tables.{Filled, Knows, Empty};
 ghost use Rattle.pack_slots.specs.Slots.{slotsIn};
-ghost use Rattle.pack_read.specs.Shown.{headOf, InsideRead, outlineOf, Outlined, BodyTold, Opens};
+ghost use Rattle.pack_read.specs.Shown.{InsideRead, outlineOf, doneOf, Outlined, BodyTold, Opens};
 use pack::Found;
 use pack::Head;
 use pack::Item;
@@ -38,7 +38,7 @@ fn crc_good(s: &[u8], at: usize) -> bool
 // before.
 fn count_inside(q: &[u8], base: usize, used: usize) -> Answer
     requires { ⌜ (used ≤ 64) × (base + length (now q) ≤ 32768) ⌝ }
-    ensures { λ r. ⌜ InsideCounted (now (q .entry)) base used r ⌝ }
+    ensures { λ r. ⌜ ((tags : List ℕ) → InsideTold (now (q .entry)) tags base used r) ⌝ }
 {
     let mut n = used;
     let mut at: usize = 0;
@@ -113,61 +113,6 @@ fn count_items(s: &[u8], from: usize) -> Answer
     Answer::Done(n)
 }
 
-// The Config at `at`: where the items start.
-fn check_config(s: &[u8], at: usize, value_start: usize, value_len: usize) -> Answer
-    requires { ⌜ («value_start» + «value_len» ≤ length (now s)) × (length (now s) ≤ 32768) ⌝ }
-    ensures { λ r. ⌜ r ≡ answered nextOf (configNext (now (s .entry)) at «value_start» «value_len») ⌝ }
-{
-    let mut tags = [0u32; 32];
-    let mut places = [0u32; 32];
-    let mut known = [0u8; 128];
-    let read = pack_config::config(
-        s,
-        at,
-        value_start,
-        value_len,
-        &mut tags,
-        &mut places,
-        &mut known,
-    );
-    match read {
-        Answer::Refused { why, place } => pack::refuse(why, place),
-        Answer::Done(_) => Answer::Done(value_start + value_len),
-    }
-}
-
-// Where the items of the pack's value at `at` start: after Config, if there is one.
-fn check_opening(s: &[u8], at: usize) -> Answer
-    requires { ⌜ length (now s) ≤ 32768 ⌝ }
-    ensures { λ r. ⌜ r ≡ answered nextOf (openingAt (now (s .entry)) at) ⌝ }
-{
-    let first = pack_config::first_at(s, at);
-    match first {
-        First::Other => Answer::Done(at),
-        First::Config {
-            value_start,
-            value_len,
-        } => check_config(s, at, value_start, value_len),
-    }
-}
-
-// The answer alone: how many items and inner payloads the pack has, or the refusal and its place.
-pub fn check(pack: &[u8]) -> Answer
-    ensures { λ r. ⌜ r ≡ checked (now (pack .entry)) ⌝ }
-{
-    let start = pack::value_start(pack);
-    match start {
-        Answer::Refused { why, place } => pack::refuse(why, place),
-        Answer::Done(at) => {
-            let opening = check_opening(pack, at);
-            match opening {
-                Answer::Refused { why, place } => pack::refuse(why, place),
-                Answer::Done(next) => count_items(pack, next),
-            }
-        }
-    }
-}
-
 // How a pack opens: its offset, how many mappings it has and where its items start, or the refusal.
 pub enum Opened {
     From {
@@ -199,6 +144,19 @@ fn stopped(why: Refusal, place: usize) -> Outline
         offset: 0,
         crc: false,
         mapped: 0,
+    }
+}
+
+// The outline of a pack whose items are read.
+fn done(n: usize, offset: u16, crc: bool, mapped: usize) -> Outline
+    requires { ⌜ mapped ≤ 32 ⌝ }
+    ensures { λ r. ⌜ r ≡ doneOf n offset crc mapped ⌝ }
+{
+    Outline {
+        answer: Answer::Done(n),
+        offset,
+        crc,
+        mapped: mapped as u32,
     }
 }
 
@@ -260,7 +218,7 @@ fn payload(
 // A Sync, with so many payloads inside.
 fn head(s: &[u8], at: usize, value_start: usize, value_len: usize, inside: usize) -> Head
     requires { ⌜ («value_start» + 4 ≤ length (now s)) × (at + («value_start» + «value_len») ≤ 65536) × (inside ≤ 64) ⌝ }
-    ensures { λ r. ⌜ r ≡ headOf (now (s .entry)) at «value_start» «value_len» inside ⌝ }
+    ensures { λ r. ⌜ r ≡ syncHead (now (s .entry)) at «value_start» «value_len» inside ⌝ }
 {
     Head {
         start: at as u32,
@@ -330,7 +288,6 @@ fn read_items(
     requires { ⌜ (length (now s) ≤ 32768) × Filled mapped (now tags) × Knows (take mapped (now tags)) (now known) × (now slots ≡ replicate 512 0) ⌝ }
     ensures { λ r. ⌜ BodyTold offset mapped (now (tags .entry)) (itemsFrom (length (now (s .entry))) (now (s .entry)) (take mapped (now (tags .entry))) from 0) r (now (slots .exit)) ⌝ }
 {
-    let mut crc = false;
     let mut n: usize = 0;
     let mut at = from;
     while at < s.len() {
@@ -340,11 +297,10 @@ fn read_items(
                 return stopped(why, at);
             }
             Step::Close { value_start } => {
-                if !crc_good(s, value_start) {
-                    return stopped(Refusal::Crc, at);
+                if crc_good(s, value_start) {
+                    return done(n, offset, true, mapped);
                 }
-                crc = true;
-                at = s.len();
+                return stopped(Refusal::Crc, at);
             }
             Step::Plain {
                 tag,
@@ -363,10 +319,11 @@ fn read_items(
             } => {
                 let base = value_start + 4;
                 let end = value_start + value_len;
+                let first = n + 1;
                 let inside = read_inside(
                     &s[base..end],
                     base,
-                    n + 1,
+                    first,
                     mapped,
                     tags,
                     known,
@@ -377,10 +334,10 @@ fn read_items(
                         return stopped(why, place);
                     }
                     Answer::Done(k) => {
-                        if k == n + 1 {
+                        if k == first {
                             return stopped(Refusal::Sync, at);
                         }
-                        let h = head(s, at, value_start, value_len, k - (n + 1));
+                        let h = head(s, at, value_start, value_len, k - first);
                         let i = Item::Sync(h);
                         pack_slots::put(&mut *slots, n, i);
                         n = k;
@@ -390,12 +347,7 @@ fn read_items(
             }
         }
     }
-    Outline {
-        answer: Answer::Done(n),
-        offset,
-        crc,
-        mapped: mapped as u32,
-    }
+    done(n, offset, false, mapped)
 }
 
 // How the pack opens. The mappings go into the three tables, which come empty.
@@ -438,6 +390,25 @@ fn open(pack: &[u8], tags: &mut [u32; 32], places: &mut [u32; 32], known: &mut [
                 }
             }
         }
+    }
+}
+
+// The answer alone: how many items and inner payloads the pack has, or the refusal and its place. Nothing is stored of the items, so a check is
+// faster than a reading.
+pub fn check(pack: &[u8]) -> Answer
+    ensures { λ r. ⌜ r ≡ checked (now (pack .entry)) ⌝ }
+{
+    let mut tags = [0u32; 32];
+    let mut places = [0u32; 32];
+    let mut known = [0u8; 128];
+    let opened = open(pack, &mut tags, &mut places, &mut known);
+    match opened {
+        Opened::Refused { why, place } => pack::refuse(why, place),
+        Opened::From {
+            offset: _,
+            mapped: _,
+            next,
+        } => count_items(pack, next),
     }
 }
 

@@ -1,33 +1,33 @@
 -- `pack_config::clashes` meets its contract: its tests are the parts of the definition, in their order.
 use mathlib.Core.Path.{sym, _∙_}
 use borrow.Author.Tests.{le-leb, lt-leb}
-use Rattle.pack_config.specs.Tables.{clashing}
+use Rattle.pack.specs.Config.{clashes}
 use borrow.Author.Needs.{needs}
 use Rattle.pack_config.proofs.clashes.Statement.{statement}
 use Rattle.pack_config.proofs.clashes.Tie as tie
 
 returns : tie.Need-returns
-unfolding clashing
+unfolding clashes
 returns c = simp (le-leb _ _ (c .if1 .taken))
 
 is-utility-requires : tie.Need-is-utility-requires
 is-utility-requires c κs = search needs
 
 returns-2 : tie.Need-returns-2
-unfolding clashing
+unfolding clashes
 returns-2 c = simp (lt-leb _ _ (c .before .before .if1 .left), sym (c .before .is-utility .ensures) ∙ c .if2 .taken)
 
 is-mapped-requires : tie.Need-is-mapped-requires
 is-mapped-requires c κs = search needs
 
 returns-3 : tie.Need-returns-3
-unfolding clashing
+unfolding clashes
 returns-3 c =
     let u = c .before .before .before in
     simp (lt-leb _ _ (u .before .if1 .left), sym (u .is-utility .ensures) ∙ c .before .before .if2 .left, sym (c .before .is-mapped .ensures) ∙ c .if3 .taken)
 
 returns-4 : tie.Need-returns-4
-unfolding clashing
+unfolding clashes
 returns-4 c =
     let u = c .before .before .before .before in
     simp (lt-leb _ _ (u .before .if1 .left), sym (u .is-utility .ensures) ∙ c .before .before .before .if2 .left, sym (c .before .before .is-mapped .ensures) ∙ c .before .if3 .left, c .before .before .before .before .before .before .before .pre .unmarked (c .if4 .taken))
@@ -36,7 +36,7 @@ is-listed-requires : tie.Need-is-listed-requires
 is-listed-requires c κs = search needs
 
 returns-5 : tie.Need-returns-5
-unfolding clashing
+unfolding clashes
 returns-5 c =
     let u = c .before .before .before .before .before in
     simp (lt-leb _ _ (u .before .if1 .left), sym (u .is-utility .ensures) ∙ c .before .before .before .before .if2 .left, sym (c .before .before .before .is-mapped .ensures) ∙ c .before .before .if3 .left) (c .is-listed .ensures)

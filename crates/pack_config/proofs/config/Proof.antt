@@ -3,7 +3,7 @@ use Prim.Native.Nat.{_+_, _-_}
 use native.Mathlib.Omega.{arith}
 use lib.ListN.{length-take}
 use denote.Ref.{now}
-use Rattle.pack_config.proofs.Maps.{read-refused}
+use Rattle.pack_config.proofs.Tables.{read-refused}
 use Rattle.pack_config.proofs.Openings.{maps-short, maps-long}
 use borrow.Author.Needs.{needs}
 use Rattle.pack_config.proofs.config.Statement.{statement}

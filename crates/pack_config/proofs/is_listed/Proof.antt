@@ -3,7 +3,7 @@ use mathlib.Core.Path.{refl, _∙_}
 use mathlib.Core.Bool.{true, false}
 use native.Mathlib.Omega.{arith}
 use Rattle.pack.proofs.Labels.{listed-hit, listed-miss, listed-none}
-use Rattle.pack_config.proofs.Standing.{standing-long, standing-at, inside-at}
+use Rattle.pack_config.proofs.Standing.{standing-long, standing-at, lies-at}
 use Prim.Native.Nat.{_+_, _-_, _≤_}
 use mathlib.Core.Path.{_≡_}
 use lib.ListN.{length, take, drop, getD}
@@ -24,7 +24,7 @@ abbrev Place : tie.After-same-label-arg Inv-loop μ-loop → Type 0
 Place c = getD (c .before .before .before .before .args .places .now) (c .before .before .loop .i) 0 + 16 ≤ length (c .before .before .before .before .args .c .now)
 
 place : (c : tie.After-same-label-arg Inv-loop μ-loop) → Place c
-place c = inside-at (c .before .before .before .before .args .c .now) (c .before .before .before .before .args .places .now) (c .before .before .before .before .args .mapped) (c .before .before .loop .i) (c .before .loop-test .taken) (c .before .before .before .before .pre .0 .there) (c .before .before .before .before .pre .2)
+place c = lies-at (c .before .before .before .before .args .c .now) (c .before .before .before .before .args .places .now) (c .before .before .before .before .args .mapped) (c .before .before .loop .i) (c .before .loop-test .taken) (c .before .before .before .before .pre .0 .there) (c .before .before .before .before .pre .2)
 
 loop-holds : tie.Need-loop-holds Inv-loop μ-loop
 loop-holds c = (omega arith, refl)

@@ -1,25 +1,20 @@
 -- `pack_read::count_inside` meets its contract. The loop keeps what is left (proofs/Inside), for any tags and any fuel that is enough.
-use mathlib.Core.Path.{_≡_, sym, ap, _∙_}
+use mathlib.Core.Path.{_≡_, sym, _∙_}
 use native.Mathlib.Omega.{arith}
 use borrow.Author.Needs.{needs}
 use denote.Ref.{now}
-use Rattle.runs.proofs.Cases.{absurd-eq}
 use Rattle.pack.specs.Payloads.{innerAt}
-use Rattle.pack.specs.declared.Payload.{Payload}
 use Rattle.pack.specs.declared.Found.the-variants.{Whole}
 use Rattle.pack.proofs.Payloads.{inner-within}
-use Rattle.refusals.specs.declared.Answer.the-variants as A
-use Rattle.pack_read.proofs.Outcomes.{answered-refused, answered-fine}
-use Rattle.pack_read.proofs.Inside.{inside-begins, inside-ends, inside-stops, inside-on}
-use Prim.Native.Nat.{ℕ, _+_, _-_, _≤_}
+use Rattle.pack_read.proofs.Inside.{SomeWithin, inside-begins, inside-on, inside-done, inside-refused}
+use Prim.Native.Nat.{ℕ, _-_, _≤_}
 use mathlib.Core.List.{List, []}
 use lib.ListN.{length}
-use Rattle.pack_read.proofs.Counting.{CountInside}
 use Rattle.pack_read.proofs.count_inside.Statement.{statement}
 use Rattle.pack_read.proofs.count_inside.Tie as tie
 
 abbrev Inv-loop : tie.InvT-loop
-Inv-loop q base used n₀ at₀ n at = (tags : List ℕ) (k : ℕ) → length q ≤ k → CountInside q tags base k used n at
+Inv-loop q base used n₀ at₀ n at = (tags : List ℕ) (k : ℕ) → length q ≤ k → SomeWithin q tags base k used n at
 
 abbrev μ-loop : tie.MeasureT-loop
 μ-loop q base used n₀ at₀ n at = length q - at
@@ -50,11 +45,7 @@ refuse-requires c κs = search needs
 returns : tie.Need-returns Inv-loop μ-loop
 returns c =
     let f = c .before .before in
-    record {
-      count = λ tags k h.
-          answered-refused _ (inside-stops (f .before .before .before .before .loop .inv tags k h .inside) (f .before .before .before .loop-test .taken) (sym (f .before .before .inner-at .ensures) ∙ f .found .given .1)) (c .refuse .ensures);
-      few = λ n e. let i = sym (c .refuse .ensures) ∙ e in absurd-eq (cc);
-    }
+    λ tags. inside-refused (f .before .before .before .before .loop .inv tags) (f .before .before .before .loop-test .taken) (sym (f .before .before .inner-at .ensures) ∙ f .found .given .1) (c .refuse .ensures)
 
 enum-known-found-2 : tie.Need-enum-known-found-2 Inv-loop μ-loop
 enum-known-found-2 c = search needs
@@ -74,14 +65,7 @@ loop-again c =
     λ tags k h. record { xs = _; inside = inside-on (f .before .before .before .before .loop .inv tags k h .inside) (f .before .before .before .loop-test .taken) (whole f) }
 
 returns-2 : tie.Need-returns-2 Inv-loop μ-loop
-returns-2 c = record {
-  count = λ tags k h.
-      let g = c .before .loop .inv tags k h .inside in
-      ap A.Done (sym (g .long)) ∙ answered-fine (λ (xs : List Payload). c .before .before .before .args .used + length xs) (inside-ends g (c .loop-test .left));
-  few = λ n e.
-      let x : c .before .loop .n ≡ n = cc in
-      omega (arith, c .before .loop .inv [] (length (now (c .before .before .before .args .q))) (omega arith) .inside .room);
-}
+returns-2 c = λ tags. inside-done (c .before .loop .inv tags) (c .loop-test .left)
 
 pub count-inside-spec : {M : Type 1} → statement M
 count-inside-spec =

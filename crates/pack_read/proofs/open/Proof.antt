@@ -9,7 +9,8 @@ use Rattle.pack.proofs.Start.{start-small}
 use Rattle.pack_config.specs.First.{firstAt}
 use Rattle.pack_config.specs.declared.First.the-variants as F
 use Rattle.pack_config.proofs.Openings.{first-within}
-use Rattle.pack_read.proofs.Outcomes.{number-of, refused-of}
+use Rattle.refusals.proofs.Lent.{refused-was}
+use Rattle.pack.proofs.Outcomes.{number-of}
 use Rattle.pack_read.proofs.Opening.{open-refused, open-without, open-stops, open-with, open-sized}
 use borrow.Author.Needs.{needs}
 use Rattle.pack_read.proofs.open.Statement.{statement}
@@ -59,7 +60,7 @@ add-t23 : tie.Need-add-t23
 add-t23 c = omega (arith, first-within _ _ _ _ (configs (c .before .before .before .before .before .before .before .before .before)), start-small _ _ (started (c .before .before .before .before .before .before .before .before .before .before .before .before .before)))
 
 returns : tie.Need-returns
-returns c = open-refused _ (refused-of (λ (n : ℕ). n) _ (sym (c .before .start .given .1) ∙ c .before .before .before .value-start .ensures))
+returns c = open-refused _ (refused-was (λ (n : ℕ). n) (c .before .before .before .value-start .ensures) (c .before .start .given .1))
 
 returns-2 : tie.Need-returns-2
 returns-2 c = open-without _ (started (c .before .before .before .before)) (sym (c .before .before .first-at .ensures) ∙ c .enum-told .given .1) (c .before .before .before .before .before .before .before .before .pre)

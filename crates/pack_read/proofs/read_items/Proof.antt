@@ -2,44 +2,67 @@
 use mathlib.Core.Path.{_≡_, sym, ap, _∙_}
 use native.Mathlib.Omega.{arith}
 use borrow.Author.Needs.{needs}
-use borrow.Author.Tests.{not-true, not-false}
 use denote.Ref.{now}
 use Rattle.pack.specs.Items.{itemAt}
 use Rattle.pack.specs.declared.Step.the-variants as S
-use Rattle.pack.proofs.Payloads.{plain-fits, open-fits, close-ends}
-use Rattle.pack_read.proofs.Coming.{coming-bad, coming-crc, inside-long, inside-part}
-use Rattle.pack_read.proofs.Listing.{Listing, listing-begins, tells-refused, tells-done, now-coming, listing-closed, listing-plain, listing-refused, listing-some, listing-none, listing-sync}
+use Rattle.pack.proofs.Payloads.{Fits, plain-fits, open-fits, close-ends}
+use Rattle.pack_read.proofs.Coming.{coming-ends, coming-bad, coming-good, coming-crc, sync-refused, sync-some, sync-none, inside-long, inside-part}
+use Rattle.pack_read.proofs.Listing.{Listing, listing-begins, tells-refused, tells-done, listing-plain, listing-sync}
 use Rattle.pack_slots.specs.Slots.{slotsIn}
 use Rattle.pack_slots.proofs.Laws.{slots-none}
-use Prim.Native.Nat.{_-_}
+use Prim.Native.Nat.{_-_, _≤_}
 use lib.ListN.{length, take}
 use Rattle.pack_read.proofs.read_items.Statement.{statement}
 use Rattle.pack_read.proofs.read_items.Tie as tie
 
 abbrev Inv-loop : tie.InvT-loop
-Inv-loop s from offset mapped tags known slots₀ crc₀ n₀ at₀ slots crc n at = Listing s (take mapped tags) from (slotsIn slots) n at crc
+Inv-loop s from offset mapped tags known slots₀ n₀ at₀ slots n at = Listing s (take mapped tags) from (slotsIn slots) n at
 
 abbrev μ-loop : tie.MeasureT-loop
-μ-loop s from offset mapped tags known slots₀ crc₀ n₀ at₀ slots crc n at = length s - at
+μ-loop s from offset mapped tags known slots₀ n₀ at₀ slots n at = length s - at
 
--- in each arm, what stands there
-abbrev Plain-at : tie.After-step3 Inv-loop μ-loop → Type 0
-Plain-at c = itemAt (now (c .before .before .before .before .before .before .args .s)) (c .before .before .before .before .loop .at) (c .before .before .before .before .loop .n) ≡ S.Plain (c .step3 .given .0 .0) (c .step3 .given .0 .1 .0) (c .step3 .given .0 .1 .1 .0)
-
-plain : (c : tie.After-step3 Inv-loop μ-loop) → Plain-at c
-plain c = sym (c .before .before .item-at .ensures) ∙ c .step3 .given .1
-
+-- in the arm of a CRC, what stands there
 abbrev Close-at : tie.After-step2 Inv-loop μ-loop → Type 0
-Close-at c = itemAt (now (c .before .before .before .before .before .before .args .s)) (c .before .before .before .before .loop .at) (c .before .before .before .before .loop .n) ≡ S.Close (c .step2 .given .0 .0)
+Close-at c =
+    let l = c .before .before .before .before in
+    itemAt (now (l .before .before .args .s)) (l .loop .at) (l .loop .n) ≡ S.Close (c .step2 .given .0 .0)
 
 closes : (c : tie.After-step2 Inv-loop μ-loop) → Close-at c
 closes c = sym (c .before .before .item-at .ensures) ∙ c .step2 .given .1
 
+-- in the arm of an audio payload, what stands there, and that it fits
+abbrev Plain-at : tie.After-step3 Inv-loop μ-loop → Type 0
+Plain-at c =
+    let l = c .before .before .before .before in
+    itemAt (now (l .before .before .args .s)) (l .loop .at) (l .loop .n) ≡ S.Plain (c .step3 .given .0 .0) (c .step3 .given .0 .1 .0) (c .step3 .given .0 .1 .1 .0)
+
+plain : (c : tie.After-step3 Inv-loop μ-loop) → Plain-at c
+plain c = sym (c .before .before .item-at .ensures) ∙ c .step3 .given .1
+
+abbrev Plain-fits : tie.After-step3 Inv-loop μ-loop → Type 0
+Plain-fits c =
+    let l = c .before .before .before .before in
+    Fits (now (l .before .before .args .s)) (l .loop .at) (l .loop .n) (c .step3 .given .0 .1 .0) (c .step3 .given .0 .1 .1 .0)
+
+fits : (c : tie.After-step3 Inv-loop μ-loop) → Plain-fits c
+fits c = plain-fits _ _ _ _ _ _ (plain c)
+
+-- and in that of a Sync
 abbrev Open-at : tie.After-step4 Inv-loop μ-loop → Type 0
-Open-at c = itemAt (now (c .before .before .before .before .before .before .args .s)) (c .before .before .before .before .loop .at) (c .before .before .before .before .loop .n) ≡ S.Open (c .step4 .given .0 .0) (c .step4 .given .0 .1 .0)
+Open-at c =
+    let l = c .before .before .before .before in
+    itemAt (now (l .before .before .args .s)) (l .loop .at) (l .loop .n) ≡ S.Open (c .step4 .given .0 .0) (c .step4 .given .0 .1 .0)
 
 opens : (c : tie.After-step4 Inv-loop μ-loop) → Open-at c
 opens c = sym (c .before .before .item-at .ensures) ∙ c .step4 .given .1
+
+abbrev Open-fits : tie.After-step4 Inv-loop μ-loop → Type 0
+Open-fits c =
+    let l = c .before .before .before .before in
+    Fits (now (l .before .before .args .s)) (l .loop .at) (l .loop .n) (c .step4 .given .0 .0) (c .step4 .given .0 .1 .0) × (4 ≤ c .step4 .given .0 .1 .0)
+
+holds : (c : tie.After-step4 Inv-loop μ-loop) → Open-fits c
+holds c = open-fits _ _ _ _ _ (opens c)
 
 loop-holds : tie.Need-loop-holds Inv-loop μ-loop
 loop-holds c = listing-begins _ _ _ (ap slotsIn (c .before .pre .3) ∙ slots-none)
@@ -56,8 +79,8 @@ stopped-requires c κs = search needs
 returns : tie.Need-returns Inv-loop μ-loop
 returns c =
     let f = c .before .before in
-    let h = f .before .before .before .loop-test .taken in
-    tells-refused _ _ _ _ (coming-bad (now-coming (f .before .before .before .before .loop .inv) h) h (sym (f .before .before .item-at .ensures) ∙ f .step .given .1)) (c .stopped .ensures)
+    let l = f .before .before .before in
+    tells-refused _ _ _ _ (coming-bad (l .before .loop .inv .coming) (l .loop-test .taken) (sym (f .before .before .item-at .ensures) ∙ f .step .given .1)) (c .stopped .ensures)
 
 enum-known-step-2 : tie.Need-enum-known-step-2 Inv-loop μ-loop
 enum-known-step-2 c = search needs
@@ -65,77 +88,82 @@ enum-known-step-2 c = search needs
 crc-good-requires : tie.Need-crc-good-requires Inv-loop μ-loop
 crc-good-requires c κs = omega (arith, close-ends _ _ _ _ (closes (c .before)))
 
-stopped-requires-2 : tie.Need-stopped-requires-2 Inv-loop μ-loop
-stopped-requires-2 c κs = search needs
+done-requires : tie.Need-done-requires Inv-loop μ-loop
+done-requires c κs = let l = c .before .before .before .before .before .before in l .before .before .before .pre .1 .few
 
 returns-2 : tie.Need-returns-2 Inv-loop μ-loop
 returns-2 c =
     let f = c .before .before .before .before in
-    let h = f .before .before .before .loop-test .taken in
-    tells-refused _ _ _ _ (coming-crc (now-coming (f .before .before .before .before .loop .inv) h) h (closes f) (sym (c .before .before .crc-good .ensures) ∙ not-true _ (c .before .if1 .taken))) (c .stopped2 .ensures)
+    let l = f .before .before .before in
+    let g = l .before .loop .inv in
+    tells-done (l .before .loop .slots) g _ _ _ (coming-good (g .coming) (l .loop-test .taken) (closes f) (sym (c .before .before .crc-good .ensures) ∙ c .before .if1 .taken)) (c .done .ensures)
 
-loop-less : tie.Need-loop-less Inv-loop μ-loop
-loop-less c = omega (arith, c .before .before .before .before .before .before .loop-test .taken)
+stopped-requires-2 : tie.Need-stopped-requires-2 Inv-loop μ-loop
+stopped-requires-2 c κs = search needs
 
-loop-again : tie.Need-loop-again Inv-loop μ-loop
-loop-again c =
-    let f = c .before .before .before in
-    listing-closed (f .before .before .before .before .loop .inv) (f .before .before .before .loop-test .taken) (closes f) (sym (c .before .crc-good .ensures) ∙ not-false _ (c .if1 .left)) (omega arith)
+returns-3 : tie.Need-returns-3 Inv-loop μ-loop
+returns-3 c =
+    let f = c .before .before .before .before in
+    let l = f .before .before .before in
+    tells-refused _ _ _ _ (coming-crc (l .before .loop .inv .coming) (l .loop-test .taken) (closes f) (sym (c .before .before .crc-good .ensures) ∙ c .before .if1 .left)) (c .stopped2 .ensures)
 
 enum-known-step-3 : tie.Need-enum-known-step-3 Inv-loop μ-loop
 enum-known-step-3 c = search needs
 
 payload-requires : tie.Need-payload-requires Inv-loop μ-loop
 payload-requires c κs =
-    let f = plain-fits _ _ _ _ _ _ (plain (c .before)) in
-    (c .before .before .before .before .before .before .before .pre .1, c .before .before .before .before .before .before .before .pre .2, omega (arith, f .later, f .inside, c .before .before .before .before .before .before .before .pre .0))
+    let f = fits (c .before) in
+    let p = c .before .before .before .before .before .before .before .pre in
+    (p .1, p .2, omega (arith, f .later, f .inside, p .0))
 
 put-requires : tie.Need-put-requires Inv-loop μ-loop
-put-requires c κs = plain-fits _ _ _ _ _ _ (plain (c .before .before .before)) .room
+put-requires c κs = fits (c .before .before .before) .room
 
 add-n : tie.Need-add-n Inv-loop μ-loop
-add-n c = let f = plain-fits _ _ _ _ _ _ (plain (c .before .before .before .before)) in omega (arith, f .later, f .inside, f .room)
+add-n c = omega (arith, fits (c .before .before .before .before) .room)
 
 add-at : tie.Need-add-at Inv-loop μ-loop
-add-at c = let f = plain-fits _ _ _ _ _ _ (plain (c .before .before .before .before)) in omega (arith, f .later, f .inside, f .room, c .before .before .before .before .before .before .before .before .before .before .pre .0)
+add-at c = let p = c .before .before .before .before in omega (arith, fits p .inside, p .before .before .before .before .before .before .pre .0)
 
-loop-less-2 : tie.Need-loop-less-2 Inv-loop μ-loop
-loop-less-2 c = let f = plain-fits _ _ _ _ _ _ (plain (c .before .before .before .before)) in omega (arith, f .later, f .inside, f .room, c .before .before .before .before .before .before .before .loop-test .taken)
+loop-less : tie.Need-loop-less Inv-loop μ-loop
+loop-less c = let p = c .before .before .before .before in let f = fits p in omega (arith, f .later, f .inside, p .before .before .before .loop-test .taken)
 
-loop-again-2 : tie.Need-loop-again-2 Inv-loop μ-loop
-loop-again-2 c =
-    let f = c .before .before .before .before in
-    listing-plain (f .before .before .before .before .loop .inv) (f .before .before .before .loop-test .taken) (plain f) (plain-fits _ _ _ _ _ _ (plain f) .room) (c .before .before .payload .ensures) (c .put .ensures)
+loop-again : tie.Need-loop-again Inv-loop μ-loop
+loop-again c =
+    let p = c .before .before .before .before in
+    let l = p .before .before .before in
+    listing-plain (l .before .loop .inv) (l .loop-test .taken) (plain p) (c .before .before .payload .ensures) (c .put .ensures)
 
 enum-known-step-4 : tie.Need-enum-known-step-4 Inv-loop μ-loop
 enum-known-step-4 c = search needs
 
 add-base : tie.Need-add-base Inv-loop μ-loop
-add-base c = let f = open-fits _ _ _ _ _ (opens (c .before)) in omega (arith, f .0 .later, f .0 .inside, f .0 .room, f .1, c .before .before .before .before .before .before .before .pre .0)
+add-base c = let f = holds (c .before) in omega (arith, f .0 .inside, f .1, c .before .before .before .before .before .before .before .pre .0)
 
 add-end : tie.Need-add-end Inv-loop μ-loop
-add-end c = let f = open-fits _ _ _ _ _ (opens (c .before)) in omega (arith, f .0 .later, f .0 .inside, f .0 .room, f .1, c .before .before .before .before .before .before .before .pre .0)
+add-end c = let f = holds (c .before) in omega (arith, f .0 .inside, c .before .before .before .before .before .before .before .pre .0)
+
+add-first : tie.Need-add-first Inv-loop μ-loop
+add-first c = omega (arith, holds (c .before) .0 .room)
 
 sub-read-inside : tie.Need-sub-read-inside Inv-loop μ-loop
-sub-read-inside c = let f = open-fits _ _ _ _ _ (opens (c .before)) in omega (arith, f .1)
+sub-read-inside c = omega (arith, holds (c .before) .1)
 
 part-read-inside-start : tie.Need-part-read-inside-start Inv-loop μ-loop
-part-read-inside-start c = let f = open-fits _ _ _ _ _ (opens (c .before)) in omega (arith, f .1)
+part-read-inside-start c = omega (arith, holds (c .before) .1)
 
 part-read-inside-end : tie.Need-part-read-inside-end Inv-loop μ-loop
-part-read-inside-end c = let f = open-fits _ _ _ _ _ (opens (c .before)) in omega (arith, f .0 .inside)
-
-add-read-inside : tie.Need-add-read-inside Inv-loop μ-loop
-add-read-inside c = let f = open-fits _ _ _ _ _ (opens (c .before .before)) in omega (arith, f .0 .room)
+part-read-inside-end c = omega (arith, holds (c .before) .0 .inside)
 
 read-inside-requires : tie.Need-read-inside-requires Inv-loop μ-loop
 read-inside-requires c κs =
     let o = c .before .before .before in
-    let f = open-fits _ _ _ _ _ (opens o) in
-    let p = o .before .before .before .before .before .before .pre in
-    let s = now (o .before .before .before .before .before .before .args .s) in
-    let l = ap length (inside-part s (o .step4 .given .0 .0) (o .step4 .given .0 .1 .0)) in
-    (omega (arith, f .0 .room), omega (arith, l, inside-long s (o .step4 .given .0 .0) (o .step4 .given .0 .1 .0) (f .0 .inside) (f .1), f .0 .inside, p .0), p .1, p .2)
+    let f = holds o in
+    let a = o .before .before .before .before .before .before in
+    let s = now (a .args .s) in
+    let v = o .step4 .given .0 .0 in
+    let l = o .step4 .given .0 .1 .0 in
+    (omega (arith, f .0 .room), omega (arith, ap length (inside-part s v l), inside-long s v l (f .0 .inside) (f .1), f .0 .inside, a .pre .0), a .pre .1, a .pre .2)
 
 enum-known-inside : tie.Need-enum-known-inside Inv-loop μ-loop
 enum-known-inside c = search needs
@@ -143,60 +171,63 @@ enum-known-inside c = search needs
 stopped-requires-3 : tie.Need-stopped-requires-3 Inv-loop μ-loop
 stopped-requires-3 c κs = search needs
 
-returns-3 : tie.Need-returns-3 Inv-loop μ-loop
-returns-3 c =
+returns-4 : tie.Need-returns-4 Inv-loop μ-loop
+returns-4 c =
     let k = c .before .before .before .before in
     let o = k .before .before .before .before in
-    tells-refused _ _ _ _ (listing-refused (o .before .before .before .before .loop .inv) (o .before .before .before .loop-test .taken) (opens o) (k .read-inside .ensures) (c .before .before .inside .given .1)) (c .stopped3 .ensures)
+    let l = o .before .before .before in
+    tells-refused _ _ _ _ (sync-refused (l .before .loop .inv .coming) (l .loop-test .taken) (opens o) (k .read-inside .ensures .inside) (c .before .before .inside .given .1)) (c .stopped3 .ensures)
 
 enum-known-inside-2 : tie.Need-enum-known-inside-2 Inv-loop μ-loop
 enum-known-inside-2 c = search needs
 
-add-if2 : tie.Need-add-if2 Inv-loop μ-loop
-add-if2 c = let f = open-fits _ _ _ _ _ (opens (c .before .before .before .before .before .before .before)) in omega (arith, f .0 .room)
-
 stopped-requires-4 : tie.Need-stopped-requires-4 Inv-loop μ-loop
 stopped-requires-4 c κs = search needs
 
-returns-4 : tie.Need-returns-4 Inv-loop μ-loop
-returns-4 c =
+returns-5 : tie.Need-returns-5 Inv-loop μ-loop
+returns-5 c =
     let k = c .before .before .before .before .before in
     let o = k .before .before .before .before in
-    tells-refused _ _ _ _ (listing-none (o .before .before .before .before .loop .inv) (o .before .before .before .loop-test .taken) (opens o) (k .read-inside .ensures) (c .before .before .before .inside2 .given .1) (c .before .if2 .taken)) (c .stopped4 .ensures)
-
-add-head : tie.Need-add-head Inv-loop μ-loop
-add-head c = let f = open-fits _ _ _ _ _ (opens (c .before .before .before .before .before .before .before .before)) in omega (arith, f .0 .room)
+    let l = o .before .before .before in
+    tells-refused _ _ _ _ (sync-none (l .before .loop .inv .coming) (l .loop-test .taken) (opens o) (k .read-inside .ensures .inside) (c .before .before .before .inside2 .given .1) (c .before .if2 .taken)) (c .stopped4 .ensures)
 
 sub-head : tie.Need-sub-head Inv-loop μ-loop
 sub-head c =
     let k = c .before .before .before .before in
     let o = k .before .before .before .before in
-    listing-some (o .before .before .before .before .loop .inv) (o .before .before .before .loop-test .taken) (opens o) (k .read-inside .ensures) (c .before .before .inside2 .given .1)
+    let l = o .before .before .before in
+    sync-some (l .before .loop .inv .coming) (l .loop-test .taken) (opens o) (k .read-inside .ensures .inside) (c .before .before .inside2 .given .1)
 
 head-requires : tie.Need-head-requires Inv-loop μ-loop
 head-requires c κs =
     let k = c .before .before .before .before in
     let o = k .before .before .before .before in
-    let f = open-fits _ _ _ _ _ (opens o) in
-    (omega (arith, f .0 .inside, f .1), omega (arith, f .0 .later, f .0 .inside, o .before .before .before .before .before .before .pre .0), omega (arith, k .read-inside .ensures .few _ (c .before .before .inside2 .given .1)))
+    let f = holds o in
+    (omega (arith, f .0 .inside, f .1), omega (arith, f .0 .later, f .0 .inside, o .before .before .before .before .before .before .pre .0), omega (arith, k .read-inside .ensures .inside .few _ (c .before .before .inside2 .given .1)))
 
 put-requires-2 : tie.Need-put-requires-2 Inv-loop μ-loop
-put-requires-2 c κs = let f = open-fits _ _ _ _ _ (opens (c .before .before .before .before .before .before .before .before .before .before)) in omega (arith, f .0 .room)
+put-requires-2 c κs = let k = c .before .before .before .before .before .before in holds (k .before .before .before .before) .0 .room
 
-loop-less-3 : tie.Need-loop-less-3 Inv-loop μ-loop
-loop-less-3 c = let f = open-fits _ _ _ _ _ (opens (c .before .before .before .before .before .before .before .before .before .before .before)) in omega (arith, f .0 .later, f .0 .inside, c .before .before .before .before .before .before .before .before .before .before .before .before .before .before .loop-test .taken)
-
-loop-again-3 : tie.Need-loop-again-3 Inv-loop μ-loop
-loop-again-3 c =
+loop-less-2 : tie.Need-loop-less-2 Inv-loop μ-loop
+loop-less-2 c =
     let k = c .before .before .before .before .before .before .before in
     let o = k .before .before .before .before in
-    listing-sync (o .before .before .before .before .loop .inv) (o .before .before .before .loop-test .taken) (opens o) (k .read-inside .ensures) (c .before .before .before .before .before .inside2 .given .1) (c .before .before .before .if2 .left) (c .before .before .head .ensures) (c .put2 .ensures)
+    omega (arith, holds o .0 .later, holds o .0 .inside, o .before .before .before .loop-test .taken)
 
-cast-t49 : tie.Need-cast-t49 Inv-loop μ-loop
-cast-t49 c = omega (arith, c .before .before .before .pre .1 .few)
+loop-again-2 : tie.Need-loop-again-2 Inv-loop μ-loop
+loop-again-2 c =
+    let k = c .before .before .before .before .before .before .before in
+    let o = k .before .before .before .before in
+    let l = o .before .before .before in
+    listing-sync (l .before .loop .inv) (l .loop-test .taken) (opens o) (k .read-inside .ensures) (c .before .before .before .before .before .inside2 .given .1) (c .before .before .before .if2 .left) (c .before .before .head .ensures) (c .put2 .ensures)
 
-returns-5 : tie.Need-returns-5 Inv-loop μ-loop
-returns-5 c = tells-done (c .before .loop .slots) (c .before .loop .inv) _ _ _ (c .loop-test .left)
+done-requires-2 : tie.Need-done-requires-2 Inv-loop μ-loop
+done-requires-2 c κs = c .before .before .before .pre .1 .few
+
+returns-6 : tie.Need-returns-6 Inv-loop μ-loop
+returns-6 c =
+    let l = c .before .before .loop in
+    tells-done (l .slots) (l .inv) _ _ _ (coming-ends (l .inv .coming) (c .before .loop-test .left)) (c .done2 .ensures)
 
 pub read-items-spec : {M : Type 1} → statement M
 read-items-spec =
@@ -211,37 +242,35 @@ read-items-spec =
     returns
     enum-known-step-2
     crc-good-requires
-    stopped-requires-2
+    done-requires
     returns-2
-    loop-less
-    loop-again
+    stopped-requires-2
+    returns-3
     enum-known-step-3
     payload-requires
     put-requires
     add-n
     add-at
-    loop-less-2
-    loop-again-2
+    loop-less
+    loop-again
     enum-known-step-4
     add-base
     add-end
+    add-first
     sub-read-inside
     part-read-inside-start
     part-read-inside-end
-    add-read-inside
     read-inside-requires
     enum-known-inside
     stopped-requires-3
-    returns-3
-    enum-known-inside-2
-    add-if2
-    stopped-requires-4
     returns-4
-    add-head
+    enum-known-inside-2
+    stopped-requires-4
+    returns-5
     sub-head
     head-requires
     put-requires-2
-    loop-less-3
-    loop-again-3
-    cast-t49
-    returns-5)
+    loop-less-2
+    loop-again-2
+    done-requires-2
+    returns-6)

@@ -3,7 +3,6 @@ use mathlib.Core.Path.{_≡_, refl, sym, ap, _∙_}
 use Prim.Native.Nat.{ℕ}
 use Rattle.runs.proofs.Cases.{absurd-eq}
 use Rattle.refusals.specs.declared.Refusal.{Refusal}
-use Rattle.refusals.specs.declared.Answer.{Answer}
 use Rattle.refusals.specs.declared.Answer.the-variants as A
 use Rattle.refusals.specs.Outcomes.{Outcome, fine, refused, andThen, answered}
 
@@ -31,26 +30,7 @@ unfolding andThen
 then-id f h (fine x) = h x
 then-id f h (refused why p) = refl
 
--- the answer of an outcome that is known
-pub answered-fine : {X : Type 0} (f : X → ℕ) {o : Outcome X} {x : X} → o ≡ fine x → A.Done (f x) ≡ answered f o
-unfolding answered
-answered-fine f e = sym (ap (answered f) e)
-
-pub answered-refused : {X : Type 0} (f : X → ℕ) {o : Outcome X} {why : Refusal} {p : ℕ} {r : Answer} → o ≡ refused why p → r ≡ A.Refused why p → r ≡ answered f o
-unfolding answered
-answered-refused f e q = q ∙ sym (ap (answered f) e)
-
--- an outcome whose answer is known
-pub fine-of : {X : Type 0} (f : X → ℕ) (o : Outcome X) {n : ℕ} (P : Type 0) → A.Done n ≡ answered f o → ((x : X) → o ≡ fine x → n ≡ f x → P) → P
-unfolding answered
-fine-of f (fine x) P e k = k x refl (cc)
-fine-of f (refused why p) P e k = absurd-eq (cc)
-
-pub refused-of : {X : Type 0} (f : X → ℕ) (o : Outcome X) {why : Refusal} {p : ℕ} → A.Refused why p ≡ answered f o → o ≡ refused why p
-unfolding answered
-refused-of f (fine x) e = absurd-eq (cc)
-refused-of f (refused why p) e = cc
-
+-- a number that was answered
 pub number-of : (o : Outcome ℕ) {n : ℕ} → A.Done n ≡ answered (λ (m : ℕ). m) o → o ≡ fine n
 unfolding answered
 number-of (fine x) e = cc

@@ -1,0 +1,65 @@
+-- The tables of the mappings: what they hold at first and after a refusal, and one tag more.
+use Prim.Native.Nat.{ℕ, suc, _+_, _<_, _≤_}
+use mathlib.Core.Path.{_≡_, refl, sym, ap, _∙_, subst}
+use mathlib.Core.List.{List, [], _∷_, _++_}
+use mathlib.Core.Bool.{true, false}
+use native.Mathlib.Nat.{zero-add}
+use native.Mathlib.Numerals.{add-one}
+use native.Mathlib.Omega.{arith}
+use lib.Dec.{eqb}
+use lib.ListN.{length, getD, set, replicate, getD-replicate}
+use lib.Seq.{getD-set-same, getD-set-other}
+use borrow.Author.Tests.{eq-eqb, ne-eqb, eqb-true, eqb-false}
+use Rattle.runs.specs.Same.{among}
+use Rattle.runs.proofs.Cases.{split, absurd-eq}
+use Rattle.refusals.specs.declared.Refusal.{Refusal}
+use Rattle.refusals.specs.declared.Answer.{Answer}
+use Rattle.refusals.specs.declared.Answer.the-variants as A
+use Rattle.refusals.specs.Outcomes.{Outcome, fine, refused, answered}
+use Rattle.pack.specs.Payloads.{nameFrom, nameOf}
+use Rattle.pack.specs.Config.{Mapping}
+use Rattle.pack_config.specs.Tables.{indexed, Knows, Empty, Tables, Hold, MapsRead}
+use Rattle.pack.specs.declared.Name.the-variants.{Label}
+
+-- one tag more: its name is its index, and no other tag's name changes
+name-new : (i : ℕ) (tags : List ℕ) (t : ℕ) → among t tags ≡ false → nameFrom i (tags ++ (t ∷ [])) t ≡ Label (i + length tags)
+unfolding nameFrom among
+name-new i [] t h = simp (eq-eqb t t refl) (ap Label (let z : i ≡ i + 0 = omega arith in z))
+name-new i (x ∷ tags) t h =
+    split (eqb x t) (λ e. let z : true ≡ false = simp e at h in absurd-eq (cc))
+    (λ e. simp e (name-new (suc i) tags t (simp e at h) ∙ ap Label (let z : suc i + length tags ≡ i + suc (length tags) = omega arith in z)))
+
+name-kept : (i : ℕ) (tags : List ℕ) (t u : ℕ) → (t ≡ u → ⊥) → nameFrom i (tags ++ (t ∷ [])) u ≡ nameFrom i tags u
+unfolding nameFrom
+name-kept i [] t u h = simp (ne-eqb t u h)
+name-kept i (x ∷ tags) t u h = split (eqb x u) (λ e. simp e) (λ e. simp e (name-kept (suc i) tags t u h))
+
+module _ (tags known : List ℕ) (t n : ℕ) (free : among t tags ≡ false) (is : length tags ≡ n) (g : Knows tags known) where
+  pub knows-short : t < 128 → length known ≡ 128 → Knows (tags ++ (t ∷ [])) (set known t (n + 1))
+  unfolding indexed
+  knows-short h l u b =
+      split (eqb t u)
+      (λ e.
+      let q : t ≡ u = eqb-true t u e in
+      subst (λ (w : ℕ). nameOf (tags ++ (t ∷ [])) w ≡ indexed (getD (set known t (n + 1)) w 0) w) q
+      (name-new 0 tags t free ∙ ap Label (zero-add (length tags) ∙ is)
+      ∙ sym (ap (λ (k : ℕ). indexed k t) (getD-set-same known t (n + 1) 0 (omega arith) ∙ add-one n))))
+      (λ e.
+      let d : t ≡ u → ⊥ = eqb-false t u e in
+      name-kept 0 tags t u d ∙ g u b ∙ sym (ap (λ (k : ℕ). indexed k u) (getD-set-other known t u (n + 1) 0 (λ q. d (sym q)))))
+
+  pub knows-long : 128 ≤ t → Knows (tags ++ (t ∷ [])) known
+  knows-long h u b = name-kept 0 tags t u (λ e. absurd (omega arith)) ∙ g u b
+
+-- no tag is known at first
+knows-none : Knows [] (replicate 128 0)
+unfolding nameFrom indexed
+knows-none t h = sym (ap (λ (k : ℕ). indexed k t) (getD-replicate 128 t 0 0 h))
+
+pub tables-none : {tags places known : List ℕ} → Empty tags places known → Tables [] tags places known
+tables-none e = record { tagged = e .tagged; placed = e .placed; index = subst (Knows []) (sym (e .index)) knows-none; few = omega arith }
+
+-- a refusal says nothing of the tables
+pub read-refused : {o : Outcome (List Mapping)} {why : Refusal} {p : ℕ} {r : Answer} {us vs ws : List ℕ} → o ≡ refused why p → r ≡ A.Refused why p → MapsRead o r us vs ws
+unfolding Hold answered
+read-refused {o} {why} {p} {r} {us} {vs} {ws} e q = subst (λ (x : Outcome (List Mapping)). MapsRead x r us vs ws) (sym e) (record { count = q; tables = tt })
