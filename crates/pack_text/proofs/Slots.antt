@@ -22,12 +22,12 @@ module _ (s places : List ℕ) {n : Name} (start len : ℕ) where
   unfolding namedLine
   line-label {i} e = let p = getD places i 0 in let z : p + 16 - p ≡ 16 = omega arith in rw (e, z)
 
-  pub label-stands : {i : ℕ} → n ≡ Label i → NameStands s places n → NameStands s places (Label i)
-  label-stands e h = subst (NameStands s places) e h
-
   pub line-number : {t : ℕ} → n ≡ Number t → namedLine s places n start len ≡ line (numberFields start t len)
   unfolding namedLine
   line-number e = rw e
+
+pub label-stands : (s places : List ℕ) {n : Name} {i : ℕ} → n ≡ Label i → NameStands s places n → NameStands s places (Label i)
+label-stands s places e h = subst (NameStands s places) e h
 
 -- the room for an item's line and its label, by the item
 pub item-is : (s places : List ℕ) (at n : ℕ) {y z : Item} → y ≡ z → (at + length (itemLine s places y) ≤ n) × ItemStands s places y

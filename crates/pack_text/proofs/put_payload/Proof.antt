@@ -25,7 +25,7 @@ stands : (c : tie.After-known-told)
     → let a = start c .args in
     let i = c .before .name .given .0 .0 in
     (i < mappingCap) × (getD (a .t4) i 0 + 16 ≤ length (a .pack .now))
-stands c = let a = start c .args in label-stands (a .pack .now) (a .t4) 0 0 (c .before .name .given .1) (start c .pre .1)
+stands c = let a = start c .args in label-stands (a .pack .now) (a .t4) (c .before .name .given .1) (start c .pre .1)
 
 -- the line, by the name
 label-line : (c : tie.After-known-told)
