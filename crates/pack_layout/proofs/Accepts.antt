@@ -7,7 +7,7 @@ use Prim.Native.Nat.{ℕ, zero, suc, _+_, _-_, _<_, _≤_}
 use native.Mathlib.Omega.{arith}
 use lib.Dec.{ltb, leb, eqb}
 use lib.ListN.{length, take, drop, length-take}
-use borrow.Author.Tests.{ltb-true, ltb-false, leb-false, eqb-true, eqb-false, lt-ltb, le-ltb, lt-leb, eq-eqb, ne-eqb}
+use borrow.Author.Tests.{ltb-true, ltb-false, leb-false, eqb-true, eqb-false, lt-ltb, le-ltb, lt-leb, eq-eqb}
 use Rattle.runs.specs.Digits.{Bytes}
 use Rattle.runs.proofs.Cases.{split, absurd-eq}
 use Rattle.refusals.specs.declared.Refusal.{Refusal}
@@ -23,8 +23,11 @@ use Rattle.pack.specs.declared.Step.{Step}
 use Rattle.pack.specs.declared.Step.the-variants as S
 use Rattle.pack.specs.Payloads.{payloadAt, innerAt, payload, innersFrom}
 use Rattle.pack.specs.Items.{Part, one, many, Body, judged, itemAt, someInside, insideOf, syncHead, with, itemsFrom}
-use Rattle.pack_layout.proofs.Outcomes.{after, onward}
-use Rattle.pack_layout.proofs.Elements.{payload-next, payload-laid}
+use Rattle.pack.proofs.Payloads.{payload-within, seen-inner, seen-item}
+use Rattle.pack.proofs.Outcomes.{then-fine}
+use Rattle.pack.proofs.Turns.{inners-end, inners-turn, items-end, items-turn, inside-some}
+use Rattle.pack_layout.proofs.Outcomes.{after}
+use Rattle.pack_layout.proofs.Elements.{payload-laid}
 
 -- the payloads of a part q that stands at `base` of the pack, from `at` on, where `used` items and payloads came before
 pub data InnersRead (q tags : List ℕ) (base : ℕ) : ℕ → ℕ → List Payload → Type 0 where
@@ -36,19 +39,16 @@ module _ (q tags : List ℕ) (base : ℕ) where
   inner-turn : (k at used t v l : ℕ) → at < length q → payloadAt q at ≡ Whole t v l → 3 < t → used < itemCap
       → innersFrom (suc k) q tags base at used
       ≡ andThen (innersFrom k q tags base (v + l) (used + 1)) (λ xs. fine (payload tags (base + at) t (base + v) l ∷ xs))
-  unfolding innersFrom innerAt
-  inner-turn k at used t v l i e h u = simp (lt-ltb _ _ i, e, lt-leb _ _ h, lt-leb _ _ u)
+  inner-turn k at used t v l i e h u = inners-turn q tags base at used k refl i (sym (seen-inner q at used t v l (record { audio = h; there = e }) u))
 
   pub inners-run : (k : ℕ) {at used : ℕ} {xs : List Payload} → InnersRead q tags base at used xs → length q ≤ at + k
       → innersFrom k q tags base at used ≡ fine xs
-  unfolding innersFrom
-  inners-run zero (noneInside h) g = refl
-  inners-run (suc k) (noneInside h) g = simp (le-ltb _ _ h)
-  inners-run zero (nextInside {at = at} t v l e h u r) g = let x = payload-next q at t v l e in absurd (omega arith)
+  inners-run k (noneInside {at = at} {used = used} h) g = inners-end q tags base at used k h
+  inners-run zero (nextInside {at = at} t v l e h u r) g = let x = payload-within q at t v l e in absurd (omega arith)
   inners-run (suc k) (nextInside {at = at} {used = used} t v l e h u r) g =
-      let x = payload-next q at t v l e in
+      let x = payload-within q at t v l e in
       inner-turn k at used t v l (omega arith) e h u
-      ∙ onward (λ xs. fine (payload tags (base + at) t (base + v) l ∷ xs)) (inners-run k r (omega arith))
+      ∙ then-fine (λ xs. fine (payload tags (base + at) t (base + v) l ∷ xs)) (inners-run k r (omega arith))
 
   pub inners-of : (k at used : ℕ) (xs : List Payload) → length q ≤ at + k → innersFrom k q tags base at used ≡ fine xs → InnersRead q tags base at used xs
   unfolding innersFrom innerAt
@@ -71,7 +71,7 @@ module _ (q tags : List ℕ) (base : ℕ) where
           (λ c. let x = payload tags (base + at) t (base + v) l in
           let above : 3 < t = leb-false _ _ b in
           let room : used < itemCap = leb-false _ _ c in
-          let next = payload-next q at t v l e in
+          let next = payload-within q at t v l e in
           let i = after (innersFrom k q tags base (v + l) (used + 1)) (λ ys. fine (x ∷ ys)) (sym (inner-turn k at used t v l (ltb-true _ _ a) e above room) ∙ h) in
           let z : x ∷ i .0 ≡ xs = (let y = i .2 in cc) in
           subst (InnersRead q tags base at used) z (nextInside t v l e above room (ih (v + l) (used + 1) (i .0) (omega arith) (i .1)))))
@@ -85,11 +85,6 @@ pub data ItemsRead (s tags : List ℕ) : ℕ → ℕ → List Part → Bool → 
   nextSync : {at used : ℕ} {parts : List Part} {mark : Bool} (v l : ℕ) (xs : List Payload) → payloadAt s at ≡ Whole 2 v l → 4 ≤ l → used < itemCap → 0 < length xs
       → InnersRead (take (l - 4) (drop (v + 4) s)) tags (v + 4) 0 (used + 1) xs
       → ItemsRead s tags (v + l) (used + 1 + length xs) parts mark → ItemsRead s tags at used (many (syncHead s at v l (length xs)) xs ∷ parts) mark
-
-some : (at : ℕ) (xs : List Payload) → 0 < length xs → someInside at xs ≡ fine xs
-unfolding someInside
-some at [] h = absurd (omega arith)
-some at (x ∷ xs) h = refl
 
 some-of : (at : ℕ) (xs ys : List Payload) → someInside at xs ≡ fine ys → (0 < length ys) × (xs ≡ ys)
 unfolding someInside
@@ -135,9 +130,7 @@ module _ (s tags : List ℕ) where
 
     turn-plain : (t v l : ℕ) → payloadAt s at ≡ Whole t v l → 3 < t → used < itemCap
         → itemsFrom (suc k) s tags at used ≡ andThen (itemsFrom k s tags (v + l) (used + 1)) (with (one (payload tags at t v l)))
-    unfolding itemsFrom itemAt judged
-    turn-plain t v l e h u =
-        simp (lt-ltb _ _ i, e, ne-eqb t 1 (λ z. omega arith), ne-eqb t 3 (λ z. omega arith), ne-eqb t 2 (λ z. omega arith), lt-leb _ _ u)
+    turn-plain t v l e h u = items-turn s tags at used k refl i (sym (seen-item s at used t v l (record { audio = h; there = e }) u))
 
     turn-sync : (v l : ℕ) → payloadAt s at ≡ Whole 2 v l → 4 ≤ l → used < itemCap
         → itemsFrom (suc k) s tags at used
@@ -148,23 +141,21 @@ module _ (s tags : List ℕ) where
 
   pub items-run : (k : ℕ) {at used : ℕ} {parts : List Part} {mark : Bool} → ItemsRead s tags at used parts mark → length s ≤ at + k
       → itemsFrom k s tags at used ≡ fine (record { parts = parts; crc = mark })
-  unfolding itemsFrom
-  items-run zero (ended h) g = refl
-  items-run (suc k) (ended h) g = simp (le-ltb _ _ h)
-  items-run zero (closed {at = at} v e z c) g = let x = payload-next s at 3 v 4 e in absurd (omega arith)
-  items-run (suc k) (closed {at = at} {used = used} v e z c) g = let x = payload-next s at 3 v 4 e in turn-crc k at used (omega arith) v e z c
-  items-run zero (nextPlain {at = at} t v l e h u r) g = let x = payload-next s at t v l e in absurd (omega arith)
+  items-run k (ended {at = at} {used = used} h) g = items-end s tags at used k h
+  items-run zero (closed {at = at} v e z c) g = let x = payload-within s at 3 v 4 e in absurd (omega arith)
+  items-run (suc k) (closed {at = at} {used = used} v e z c) g = let x = payload-within s at 3 v 4 e in turn-crc k at used (omega arith) v e z c
+  items-run zero (nextPlain {at = at} t v l e h u r) g = let x = payload-within s at t v l e in absurd (omega arith)
   items-run (suc k) (nextPlain {at = at} {used = used} t v l e h u r) g =
-      let x = payload-next s at t v l e in
-      turn-plain k at used (omega arith) t v l e h u ∙ onward (with (one (payload tags at t v l))) (items-run k r (omega arith))
-  items-run zero (nextSync {at = at} v l xs e h u some ir r) g = let x = payload-next s at 2 v l e in absurd (omega arith)
+      let x = payload-within s at t v l e in
+      turn-plain k at used (omega arith) t v l e h u ∙ then-fine (with (one (payload tags at t v l))) (items-run k r (omega arith))
+  items-run zero (nextSync {at = at} v l xs e h u some ir r) g = let x = payload-within s at 2 v l e in absurd (omega arith)
   items-run (suc k) (nextSync {at = at} {used = used} v l xs e h u n ir r) g =
-      let x = payload-next s at 2 v l e in
+      let x = payload-within s at 2 v l e in
       let q = take (l - 4) (drop (v + 4) s) in
-      let inside : insideOf s tags at v l used ≡ fine xs = onward (someInside at) (inners-run q tags (v + 4) l ir (simp length-take (omega arith))) ∙ some at xs n in
+      let inside : insideOf s tags at v l used ≡ fine xs = then-fine (someInside at) (inners-run q tags (v + 4) l ir (simp length-take (omega arith))) ∙ inside-some at xs (λ z. omega arith) in
       turn-sync k at used (omega arith) v l e h u
-      ∙ onward (λ ys. andThen (itemsFrom k s tags (v + l) (used + 1 + length ys)) (with (many (syncHead s at v l (length ys)) ys))) inside
-      ∙ onward (with (many (syncHead s at v l (length xs)) xs)) (items-run k r (omega arith))
+      ∙ then-fine (λ ys. andThen (itemsFrom k s tags (v + l) (used + 1 + length ys)) (with (many (syncHead s at v l (length ys)) ys))) inside
+      ∙ then-fine (with (many (syncHead s at v l (length xs)) xs)) (items-run k r (omega arith))
 
   -- an item of an accepted pack, where what follows it is known
   module _ (k at used : ℕ) (b : Body) (bytes : Bytes s) (inside : at < length s) (h : itemsFrom (suc k) s tags at used ≡ fine b)
@@ -174,14 +165,14 @@ module _ (s tags : List ℕ) where
 
     of-plain : (t v l : ℕ) → payloadAt s at ≡ Whole t v l → 3 < t → used < itemCap → ItemsRead s tags at used (b .parts) (b .crc)
     of-plain t v l e above room =
-        let x = payload-next s at t v l e in
+        let x = payload-within s at t v l e in
         let r = after (itemsFrom k s tags (v + l) (used + 1)) (with (one (payload tags at t v l))) (sym (turn-plain k at used inside t v l e above room) ∙ h) in
         let w = r .2 in
         is (cc) (nextPlain t v l e above room (rest (v + l) (used + 1) (r .0) (omega arith) (r .1)))
 
     of-sync : (v l : ℕ) → payloadAt s at ≡ Whole 2 v l → 4 ≤ l → used < itemCap → ItemsRead s tags at used (b .parts) (b .crc)
     of-sync v l e long room =
-        let x = payload-next s at 2 v l e in
+        let x = payload-within s at 2 v l e in
         let q = take (l - 4) (drop (v + 4) s) in
         let i = after (insideOf s tags at v l used)
         (λ ys. andThen (itemsFrom k s tags (v + l) (used + 1 + length ys)) (with (many (syncHead s at v l (length ys)) ys)))

@@ -8,6 +8,7 @@ use native.Mathlib.Omega.{arith}
 use lib.Dec.{eqb}
 use lib.ListN.{length, take, drop, length-take, length-drop, length-map}
 use Rattle.runs.specs.Those.{Each}
+use Rattle.runs.proofs.Those.{each-map}
 use Rattle.runs.specs.Digits.{Bytes}
 use Rattle.runs.proofs.Cases.{split}
 use Rattle.runs.proofs.Below.{below-take}
@@ -19,13 +20,19 @@ use Rattle.pack.specs.declared.Name.{Name}
 use Rattle.pack.specs.declared.Name.the-variants.{Label, Number}
 use Rattle.pack.specs.declared.Payload.{Payload}
 use Rattle.pack.specs.declared.Head.{Head}
+use Rattle.pack.specs.declared.Item.{Item}
+use Rattle.pack.specs.declared.Item.the-variants as I
+use Rattle.pack.specs.declared.Slot.{Slot}
 use Rattle.pack.specs.Payloads.{nameFrom, nameOf}
 use Rattle.pack.specs.Config.{Mapping}
 use Rattle.pack.specs.Items.{Part, one, many, syncHead, countOf}
 use Rattle.pack.specs.Reading.{Read, reading}
+use Rattle.pack.specs.Slots.{slots}
+use Rattle.pack.proofs.Slots.{PartItems, slots-each}
+use Rattle.pack.proofs.Payloads.{payload-within}
 use Rattle.pack_layout.specs.Well.{WellEntries}
 use Rattle.pack_layout.proofs.Parts.{part-bytes}
-use Rattle.pack_layout.proofs.Elements.{payload-next, payload-laid}
+use Rattle.pack_layout.proofs.Elements.{payload-laid}
 use Rattle.pack_layout.proofs.Accepts.{InnersRead, noneInside, nextInside, ItemsRead, ended, closed, nextPlain, nextSync}
 use Rattle.pack_layout.proofs.Opens.{mappingOf, MappingsRead, noneMapped, nextMapped, OpeningRead, noConfigRead, configRead, reading-of}
 use Rattle.pack_layout.proofs.Counts.{items-count, mappings-count}
@@ -55,12 +62,23 @@ abbrev pub PartLies : List ℕ → ℕ → Part → Type 0
 PartLies s mapped (one x) = PayloadLies s mapped x
 PartLies s mapped (many h xs) = HeadLies s h xs × Each (PayloadLies s mapped) xs
 
+-- the same, asked of an item
+abbrev pub ItemLies : List ℕ → ℕ → Item → Type 0
+ItemLies s mapped (I.Single x) = PayloadLies s mapped x
+ItemLies s mapped (I.Inner x) = PayloadLies s mapped x
+ItemLies s mapped (I.Sync h) = (xs : List Payload) × HeadLies s h xs
+
+-- where the parts lie, each slot lies
+pub slots-lie : (s : List ℕ) (mapped : ℕ) (ps : List Part) → Each (PartLies s mapped) ps → Each (λ (w : Slot). ItemLies s mapped (w .item)) (slots ps)
+slots-lie s mapped ps h = slots-each (ItemLies s mapped) ps (each-map items ps h)
+  where
+    items : (p : Part) → PartLies s mapped p → PartItems (ItemLies s mapped) p
+    items (one x) l = l
+    items (many y xs) l = ((xs, l .0), l .1)
+
 pub record LabelLies (s : List ℕ) (m : Mapping) : Type 0 where
   pub ends : m .place + 16 ≤ length s
   pub is : m .stands ≡ take 16 (drop (m .place) s)
-
-pub start-low : {s : List ℕ} {mapped : ℕ} {x : Payload} → length s ≤ packCap → PayloadLies s mapped x → x .start < packCap
-start-low h p = omega arith
 
 -- what is known of a pack that is accepted
 pub record Accepted (s : List ℕ) (r : Read) : Type 0 where
@@ -87,7 +105,7 @@ inners-lie : (s : List ℕ) {q tags : List ℕ} {base at used : ℕ} {xs : List 
     → Each (PayloadLies s (length tags)) xs
 inners-lie s b room (noneInside h) = tt
 inners-lie s {q} {tags} b room (nextInside {at = at} t v l e h u r) =
-    let x = payload-next q at t v l e in
+    let x = payload-within q at t v l e in
     let d = payload-laid q at t v l b e in
     (record { starts = omega arith; ends = omega arith; named = name-fits tags t h (d .high) }, inners-lie s b room r)
 
@@ -96,15 +114,15 @@ items-lie : (s : List ℕ) {tags : List ℕ} {at used : ℕ} {parts : List Part}
 items-lie s b (ended h) = tt
 items-lie s b (closed v e z c) = tt
 items-lie s {tags} b (nextPlain {at = at} t v l e h u r) =
-    let x = payload-next s at t v l e in
+    let x = payload-within s at t v l e in
     let d = payload-laid s at t v l b e in
-    (record { starts = x .0; ends = x .1; named = name-fits tags t h (d .high) }, items-lie s b r)
+    (record { starts = x .later; ends = x .inside; named = name-fits tags t h (d .high) }, items-lie s b r)
 items-lie s {tags} b (nextSync {at = at} v l xs e h u n inner r) =
-    let x = payload-next s at 2 v l e in
+    let x = payload-within s at 2 v l e in
     let q = take (l - 4) (drop (v + 4) s) in
     let room : v + 4 + length q ≤ length s = simp (length-take, length-drop) (omega arith) in
     let head : HeadLies s (syncHead s at v l (length xs)) xs =
-    record { starts = x .0; ends = x .1; long = h; offset = big-lt s v 2 b; duration = big-lt s (v + 2) 2 b; count = refl; some = n } in
+    record { starts = x .later; ends = x .inside; long = h; offset = big-lt s v 2 b; duration = big-lt s (v + 2) 2 b; count = refl; some = n } in
     ((head, inners-lie s (part-bytes s (v + 4) (l - 4) b) room inner), items-lie s b r)
 
 -- labels that stand in the front of a list stand in it

@@ -6,26 +6,17 @@ use native.Mathlib.Omega.{arith}
 use lib.ListN.{length, length-append}
 use Rattle.runs.specs.Digits.{digits}
 use Rattle.runs.proofs.Digits.{length-digits}
-use Rattle.refusals.specs.Outcomes.{fine}
 use Rattle.numbers.specs.Tags.{tagBytes}
 use Rattle.numbers.specs.Lengths.{formBytes}
 use Rattle.crc.specs.Crc.{crcOf}
 use Rattle.pack.specs.Fixed.{key, packCap}
-use Rattle.pack.specs.Reading.{Read, reading}
-use Rattle.pack.specs.Meaning.{meant}
 use Rattle.pack_layout.specs.Layout.{CrcLaid, noCrc, crc, Description, element, chunksBytes, configBytes, contentBytes, beforeCrc, laid, layout, crcMark, says}
 use Rattle.pack_layout.specs.Well.{FormFits, WellCrc, crcSize, WellFormed}
+use Rattle.pack_layout.specs.Agrees.{Complete}
 use Rattle.pack_layout.proofs.Parts.{grouped, counted}
 use Rattle.pack_layout.proofs.Opens.{reading-run}
 use Rattle.pack_layout.proofs.Items.{closes-bare, closes-crc}
 use Rattle.pack_layout.proofs.Packs.{PackLaid, pack-laid}
-
--- the layout of d is read, it means what d says, and it is found to have a CRC where d has one
-pub record Complete (d : Description) : Type 0 where
-  pub read : Read
-  pub reads : reading (layout d) ≡ fine read
-  pub means : meant (layout d) read ≡ says d
-  pub marks : read .body .crc ≡ crcMark (d .last)
 
 -- with what closes the pack in hand
 closed-by : (d : Description) → WellFormed d → (last : CrcLaid) → FormFits (d .form) (length (contentBytes d) + crcSize last) → WellCrc last

@@ -23,10 +23,11 @@ use Rattle.pack.specs.declared.Payload.{Payload}
 use Rattle.pack.specs.Payloads.{payloadAt}
 use Rattle.pack.specs.Config.{Mapping}
 use Rattle.pack.specs.Items.{Part, countOf}
+use Rattle.pack.proofs.Payloads.{payload-within}
 use Rattle.pack_layout.specs.Layout.{Element, Chunk, plain, group, ConfigLaid, noConfig, config, CrcLaid, noCrc, crc, element, elementsBytes, groupBytes, chunksBytes, entriesBytes, configBytes}
 use Rattle.pack_layout.specs.Well.{FormFits, WellElements, WellChunks, WellEntry, WellEntries, WellConfig, chunksCount}
 use Rattle.pack_layout.proofs.Parts.{drop-take, part-bytes, two-bytes}
-use Rattle.pack_layout.proofs.Elements.{payload-next, payload-laid}
+use Rattle.pack_layout.proofs.Elements.{payload-laid}
 use Rattle.pack_layout.proofs.Accepts.{InnersRead, noneInside, nextInside, ItemsRead, ended, closed, nextPlain, nextSync}
 use Rattle.pack_layout.proofs.Opens.{mappingOf, MappingsRead, noneMapped, nextMapped, OpeningRead, noConfigRead, configRead}
 use Rattle.pack_layout.proofs.Entries.{entryOf, entries-more, apart-of}
@@ -41,7 +42,7 @@ record ElementsDescribed (q : List ℕ) (at n : ℕ) : Type 0 where
   count : length elements ≡ n
 
 inners-described : {q tags : List ℕ} {base at used : ℕ} {ps : List Payload} → Bytes q → InnersRead q tags base at used ps → ElementsDescribed q at (length ps)
-unfolding WellElements elementsBytes
+unfolding elementsBytes
 inners-described {q} b (noneInside h) = record { elements = []; well = tt; stands = drop-of-length-le q h; count = refl }
 inners-described {q} b (nextInside {at = at} t v l e h u r) =
     let d = payload-laid q at t v l b e in
@@ -72,7 +73,7 @@ pub record ChunksDescribed (s : List ℕ) (at n : ℕ) : Type 0 where
 
 module _ (s : List ℕ) (b : Bytes s) where
   crc-described : (at v : ℕ) → payloadAt s at ≡ Whole 3 v 4 → v + 4 ≡ length s → bigAt s v 4 ≡ crcOf (take v s) → ChunksDescribed s at 0
-  unfolding WellChunks chunksBytes chunksCount
+  unfolding chunksBytes chunksCount
   crc-described at v e z c =
       let d = payload-laid s at 3 v 4 b e in
       let value : take 4 (drop v s) ≡ drop v s = take-all 4 (drop v s) (simp length-drop (omega arith)) in
@@ -102,7 +103,7 @@ module _ (s : List ℕ) (b : Bytes s) where
       ∙ ap (λ (y : List ℕ). digits 256 2 (bigAt s (v + 2) 2) ++ y) (ap₂ (λ (m n : ℕ). take m (drop n s)) x (add-assoc v 2 2) ∙ e))
 
   pub items-described : {tags : List ℕ} {at used : ℕ} {parts : List Part} {mark : Bool} → ItemsRead s tags at used parts mark → ChunksDescribed s at (countOf parts)
-  unfolding WellChunks chunksBytes chunksCount countOf
+  unfolding chunksBytes chunksCount countOf
   items-described (ended h) = record {
     chunks = [];
     last = noCrc;
@@ -129,7 +130,7 @@ module _ (s : List ℕ) (b : Bytes s) where
       }
   items-described (nextSync {at = at} v l ps e h u n inner r) =
       let d = payload-laid s at 2 v l b e in
-      let x = payload-next s at 2 v l e in
+      let x = payload-within s at 2 v l e in
       let j = inners-described (part-bytes s (v + 4) (l - 4) b) inner in
       let i = items-described r in
       let o = bigAt s v 2 in
@@ -194,7 +195,7 @@ unfolding WellConfig configBytes WellEntries
 opening-described s b (noConfigRead none) = record { first = noConfig; well = tt; stands = refl }
 opening-described s b {start = start} (configRead {ms = ms} v l e h r) =
     let d = payload-laid s start 1 v l b e in
-    let x = payload-next s start 1 v l e in
+    let x = payload-within s start 1 v l e in
     let c = take (v + l) s in
     let entries = map entryOf ms in
     let bc = below-take 256 (v + l) s b in

@@ -1,26 +1,22 @@
 -- Elements: one that is written is found where it stands, and one that is found is laid out there in some form of its length.
-use mathlib.Core.Path.{_≡_, refl, sym, ap, ap₂, _∙_}
+use mathlib.Core.Path.{_≡_, sym, ap, ap₂, _∙_}
 use mathlib.Core.List.{List, _++_, append-assoc}
 use Prim.Native.Nat.{ℕ, _+_, _-_, _^_, _<_, _≤_}
 use native.Mathlib.Omega.{arith}
-use lib.Dec.{leb}
 use lib.ListN.{length, take, drop, length-append, length-drop, take-append-drop}
 use lib.Seq.{length-take-le, drop-drop}
-use borrow.Author.Tests.{le-leb, leb-true}
+use borrow.Author.Tests.{le-leb}
 use Rattle.runs.specs.Digits.{Bytes}
-use Rattle.runs.proofs.Cases.{split, absurd-eq}
 use Rattle.runs.proofs.Stands.{stands-past}
-use Rattle.refusals.specs.declared.Refusal.the-variants as R
-use Rattle.numbers.specs.declared.TagRead.{TagRead}
 use Rattle.numbers.specs.declared.TagRead.the-variants as T
-use Rattle.numbers.specs.declared.LengthRead.{LengthRead}
 use Rattle.numbers.specs.declared.LengthRead.the-variants as L
 use Rattle.numbers.specs.Tags.{tagAt, tagBytes}
 use Rattle.numbers.specs.Lengths.{lengthAt, formBytes}
 use Rattle.numbers.proofs.Tags.{tag-back, tag-next, tag-range, tag-canonical}
 use Rattle.numbers.proofs.Lengths.{form-back, form-sound, length-next}
-use Rattle.pack.specs.declared.Found.the-variants.{Whole, Wrong}
+use Rattle.pack.specs.declared.Found.the-variants.{Whole}
 use Rattle.pack.specs.Payloads.{valueFound, tagFound, payloadAt}
+use Rattle.pack.proofs.Payloads.{payload-parsed, payload-within}
 use Rattle.pack_layout.specs.Layout.{element}
 use Rattle.pack_layout.specs.Well.{FormFits}
 
@@ -62,45 +58,6 @@ element-back p at t form value rest e low high fits =
       next = stands-past p v value rest e2;
     }
 
--- What stands where a payload was found: its tag up to `size`, its length up to v, and enough bytes.
-record Spelled (p : List ℕ) (at t v l : ℕ) : Type 0 where
-  size : ℕ
-  tag : tagAt p at ≡ T.Tag t size
-  long : lengthAt p size ≡ L.Length l v
-  room : l ≤ length p - v
-
-spelled-length : (p : List ℕ) (at t v l u n : ℕ) (r : LengthRead) → tagAt p at ≡ T.Tag u n → lengthAt p n ≡ r → valueFound p u r ≡ Whole t v l
-    → Spelled p at t v l
-unfolding valueFound
-spelled-length p at t v l u n (L.Length m k) a b h =
-    split (leb m (length p - k))
-    (λ e. let i : Whole u k m ≡ Whole t v l = simp e at h in
-    let x : u ≡ t = cc in
-    let y : m ≡ l = cc in
-    let z : k ≡ v = cc in
-    record { size = n; tag = a ∙ ap (λ (w : ℕ). T.Tag w n) x; long = b ∙ ap₂ L.Length y z; room = omega (arith, leb-true) })
-    (λ e. let i : Wrong R.Cut ≡ Whole t v l = simp e at h in absurd-eq (cc))
-spelled-length p at t v l u n L.Forbidden a b h = absurd-eq (cc)
-spelled-length p at t v l u n L.Cut a b h = absurd-eq (cc)
-
-spelled-tag : (p : List ℕ) (at t v l : ℕ) (r : TagRead) → tagAt p at ≡ r → tagFound p r ≡ Whole t v l → Spelled p at t v l
-unfolding tagFound
-spelled-tag p at t v l (T.Tag u n) a h = spelled-length p at t v l u n (lengthAt p n) a refl h
-spelled-tag p at t v l T.Bad a h = absurd-eq (cc)
-spelled-tag p at t v l T.Cut a h = absurd-eq (cc)
-
-spelled : (p : List ℕ) (at t v l : ℕ) → payloadAt p at ≡ Whole t v l → Spelled p at t v l
-unfolding payloadAt
-spelled p at t v l h = spelled-tag p at t v l (tagAt p at) refl h
-
--- a payload that is found starts before its value, which ends within the part
-pub payload-next : (p : List ℕ) (at t v l : ℕ) → payloadAt p at ≡ Whole t v l → (at < v) × (v + l ≤ length p)
-payload-next p at t v l h =
-    let r = spelled p at t v l h in
-    let x = tag-next p at t (r .size) (r .tag) in
-    let y = length-next p (r .size) l v (r .long) in
-    (omega arith, omega (arith, r .room))
-
 -- An element with the tag t is laid out at `at` of p, in some form of its length; its value runs l bytes from v on.
 pub record Laid (p : List ℕ) (at t v l : ℕ) : Type 0 where
   pub form : ℕ
@@ -111,12 +68,12 @@ pub record Laid (p : List ℕ) (at t v l : ℕ) : Type 0 where
 
 pub payload-laid : (p : List ℕ) (at t v l : ℕ) → Bytes p → payloadAt p at ≡ Whole t v l → Laid p at t v l
 payload-laid p at t v l b h =
-    let r = spelled p at t v l h in
-    let n = r .size in
-    let f = form-sound p n l v b (r .long) in
+    let r = payload-parsed p at t v l h in
+    let n = r .after in
+    let f = form-sound p n l v b (r .len) in
     let value = take l (drop v p) in
     let rest = drop (v + l) p in
-    let x = payload-next p at t v l h in
+    let x = payload-within p at t v l h in
     let long : length value ≡ l = length-take-le l (drop v p) (omega (arith, length-drop v p)) in
     let same : formBytes (f .form) l ≡ formBytes (f .form) (length value) = ap (formBytes (f .form)) (sym long) in
     let e2 : drop v p ≡ value ++ rest = sym (take-append-drop l (drop v p)) ∙ ap (λ (y : List ℕ). value ++ y) (drop-drop l v p) in

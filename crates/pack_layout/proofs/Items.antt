@@ -56,7 +56,7 @@ module _ (s tags : List ℕ) (labels : List (List ℕ)) (ms : List Entry) (names
 
   inners-laid : (xs : List Element) (q rest : List ℕ) (base at used : ℕ) → drop base s ≡ q ++ rest → drop at q ≡ elementsBytes xs
       → used + length xs ≤ itemCap → WellElements xs → InnersLaid s tags labels ms q base at used xs
-  unfolding elementsBytes WellElements
+  unfolding elementsBytes
   inners-laid [] q rest base at used b e u w = record { found = []; reads = noneInside {at = at} (omega (arith, length-drop at q, ap length e)); means = refl }
   inners-laid (x ∷ xs) q rest base at used b e u w =
       let r = element-back q at (x .tag) (x .form) (x .value) (elementsBytes xs) e (omega (arith, w .0 .above)) (w .0 .below) (w .0 .fits) in
@@ -97,7 +97,7 @@ module _ (s tags : List ℕ) (labels : List (List ℕ)) (ms : List Entry) (names
   -- the items up to `tail`, which closes the pack wherever it stands
   module _ (tail : List ℕ) (mark : Bool) (closes : (at used : ℕ) → drop at s ≡ tail → ItemsRead s tags at used [] mark) where
     pub items-laid : (cs : List Chunk) (at used : ℕ) → drop at s ≡ chunksBytes cs ++ tail → used + chunksCount cs ≤ itemCap → WellChunks cs → ItemsLaid s tags labels ms at used cs mark
-    unfolding chunksBytes chunksCount WellChunks
+    unfolding chunksBytes chunksCount
     items-laid [] at used e u w = record { found = []; reads = closes at used e; means = refl }
     items-laid (plain x ∷ cs) at used e u w =
         let rest = chunksBytes cs ++ tail in

@@ -36,7 +36,7 @@ element-below t form value fits b =
     below-append 256 (tagBytes t) (fb ++ value) (tag-bytes-below t) (below-append 256 fb value (form-below form (length value) (fits .0) (fits .1)) b)
 
 elements-below : (xs : List Element) → WellElements xs → Bytes (elementsBytes xs)
-unfolding elementsBytes WellElements
+unfolding elementsBytes
 elements-below [] w = λ k. omega arith
 elements-below (x ∷ xs) w =
     below-append 256 (element (x .tag) (x .form) (x .value)) (elementsBytes xs) (element-below (x .tag) (x .form) (x .value) (w .0 .fits) (w .0 .bytes))
@@ -48,7 +48,7 @@ group-below o d xs w =
     (below-append 256 (digits 256 2 d) (elementsBytes xs) (run-below 2 d) (elements-below xs w))
 
 chunks-below : (cs : List Chunk) → WellChunks cs → Bytes (chunksBytes cs)
-unfolding chunksBytes WellChunks
+unfolding chunksBytes
 chunks-below [] w = λ k. omega arith
 chunks-below (plain x ∷ cs) w =
     below-append 256 (element (x .tag) (x .form) (x .value)) (chunksBytes cs) (element-below (x .tag) (x .form) (x .value) (w .0 .fits) (w .0 .bytes))

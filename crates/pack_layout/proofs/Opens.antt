@@ -7,7 +7,7 @@ use Prim.Native.Nat.{ℕ, zero, suc, _+_, _-_, _<_, _≤_}
 use native.Mathlib.Omega.{arith}
 use lib.Dec.{ltb, leb, eqb}
 use lib.ListN.{length, take, drop, length-take}
-use borrow.Author.Tests.{ltb-true, ltb-false, leb-false, eqb-true, eqb-false, lt-ltb, le-ltb, lt-leb, ne-eqb}
+use borrow.Author.Tests.{ltb-true, ltb-false, leb-false, eqb-true, eqb-false, le-ltb, ne-eqb}
 use Rattle.runs.specs.Digits.{Bytes}
 use Rattle.runs.specs.Same.{same}
 use Rattle.runs.proofs.Cases.{split, absurd-eq}
@@ -29,7 +29,9 @@ use Rattle.pack.specs.Payloads.{payloadAt}
 use Rattle.pack.specs.Config.{Mapping, tagsOf, labelsOf, clashes, mappingAt, mappingsFrom, configMaps}
 use Rattle.pack.specs.Items.{itemsFrom}
 use Rattle.pack.specs.Reading.{Read, Opening, valueStart, configOf, openingAt, readFrom, reading}
-use Rattle.pack_layout.proofs.Outcomes.{after, onward}
+use Rattle.pack.proofs.Outcomes.{then-fine}
+use Rattle.pack.proofs.Turns.{mappings-end, mappings-turn, mapping-fine}
+use Rattle.pack_layout.proofs.Outcomes.{after}
 use Rattle.pack_layout.proofs.Accepts.{ItemsRead, items-run, items-of}
 
 -- the mapping of the tag t to the label that stands at n of c
@@ -70,11 +72,6 @@ one-more {c} {seen} d r =
     }
 
 module _ (c : List ℕ) (place : ℕ) where
-  mapping-is : (seen : List Mapping) (at t n : ℕ) → length seen < mappingCap → tagAt c at ≡ T.Tag t n → n + 16 ≤ length c
-      → clashes (tagsOf seen) (labelsOf seen) t (take 16 (drop n c)) ≡ false → mappingAt c place seen at ≡ fine (mappingOf c t n)
-  unfolding mappingAt
-  mapping-is seen at t n u e g a = let h : 16 ≤ length c - n = omega arith in simp (lt-leb _ _ u, e, le-ltb _ _ h, a)
-
   mapping-of : (seen : List Mapping) (at : ℕ) (m : Mapping) → mappingAt c place seen at ≡ fine m → MappingRead c seen at m
   unfolding mappingAt
   mapping-of seen at m h =
@@ -94,31 +91,26 @@ module _ (c : List ℕ) (place : ℕ) where
           let x : 16 ≤ length c - n = ltb-false _ _ b in
           record { t = t; n = n; few = leb-false _ _ a; tag = e; room = omega arith; apart = d; is = cc }))
 
-  next : (k : ℕ) (seen : List Mapping) → Mapping → Outcome (List Mapping)
+  -- what comes after a mapping
+  abbrev next : (k : ℕ) (seen : List Mapping) → Mapping → Outcome (List Mapping)
   next k seen m = mappingsFrom k c place (seen ++ (m ∷ [])) (m .place + 16)
-
-  mappings-turn : (k : ℕ) (seen : List Mapping) (at : ℕ) → at < length c → mappingsFrom (suc k) c place seen at ≡ andThen (mappingAt c place seen at) (next k seen)
-  unfolding mappingsFrom next
-  mappings-turn k seen at h = simp (lt-ltb _ _ h)
 
   pub mappings-run : (k : ℕ) {at : ℕ} {seen more : List Mapping} → MappingsRead c at seen more → length c ≤ at + k
       → mappingsFrom k c place seen at ≡ fine (seen ++ more)
-  unfolding mappingsFrom next
-  mappings-run zero (noneMapped {seen = seen} h) g = ap fine (sym (append-nil seen))
-  mappings-run (suc k) (noneMapped {seen = seen} h) g = simp (le-ltb _ _ h) (ap fine (sym (append-nil seen)))
+  mappings-run k (noneMapped {at = at} {seen = seen} h) g = mappings-end c place seen at k h ∙ ap fine (sym (append-nil seen))
   mappings-run zero (nextMapped {at = at} t n u e r a d) g = let x = tag-next c at t n e in absurd (omega arith)
   mappings-run (suc k) (nextMapped {at = at} {seen = seen} {more = more} t n u e r a d) g =
       let x = tag-next c at t n e in
       let m = mappingOf c t n in
-      mappings-turn k seen at (omega arith) ∙ onward (next k seen) (mapping-is seen at t n u e r a)
+      mappings-turn c place seen at k refl (omega arith) (mapping-fine c place seen at u t n e (omega arith) a) ∙ then-fine (next k seen) refl
       ∙ mappings-run k d (omega arith) ∙ ap fine (append-assoc seen (m ∷ []) more)
 
   rest-of : (k : ℕ) (seen : List Mapping) (at : ℕ) (ms : List Mapping) → length c ≤ at + k → mappingsFrom k c place seen at ≡ fine ms → MappingsAfter c at seen ms
-  unfolding mappingsFrom next
+  unfolding mappingsFrom
   rest-of zero seen at ms g h = let z : seen ≡ ms = cc in record { more = []; whole = append-nil seen ∙ z; reads = noneMapped {at = at} (omega arith) }
   rest-of (suc k) seen at ms g h =
       split (ltb at (length c))
-      (λ a. let i = after (mappingAt c place seen at) (next k seen) (sym (mappings-turn k seen at (ltb-true _ _ a)) ∙ h) in
+      (λ a. let i = after (mappingAt c place seen at) (next k seen) (sym (mappings-turn c place seen at k refl (ltb-true _ _ a) refl) ∙ h) in
       let d = mapping-of seen at (i .0) (i .1) in
       let x = tag-next c at (d .t) (d .n) (d .tag) in
       one-more d (rest-of k (seen ++ (mappingOf c (d .t) (d .n) ∷ [])) (d .n + 16) ms (omega arith) (ap (next k seen) (d .is) ∙ i .2)))
@@ -143,7 +135,7 @@ module _ (s : List ℕ) (at : ℕ) where
   unfolding configMaps andThen
   config-is v l ms h r =
       simp (le-ltb _ _ h)
-      (onward (λ ms. fine (opening (bigAt s v 2) ms (v + l))) (mappings-run (take (v + l) s) at l r (simp length-take (omega arith))))
+      (then-fine (λ ms. fine (opening (bigAt s v 2) ms (v + l))) (mappings-run (take (v + l) s) at l r (simp length-take (omega arith))))
 
   config-of : (v l : ℕ) (o : Opening) → payloadAt s at ≡ Whole 1 v l → configOf s at v l ≡ fine o → OpeningRead s at (o .offset) (o .mappings) (o .next)
   unfolding configMaps andThen
@@ -229,9 +221,9 @@ pub record PackRead (s : List ℕ) (r : Read) : Type 0 where
 pub reading-run : (s : List ℕ) (r : Read) → PackRead s r → reading s ≡ fine r
 unfolding reading readFrom
 reading-run s r p =
-    onward (λ at. andThen (openingAt s at) (readFrom s)) (start-run s (p .start) (p .begins))
-    ∙ onward (readFrom s) (opening-run s (p .start) (p .opens))
-    ∙ onward (λ b. fine (record { offset = r .offset; mappings = r .mappings; body = b })) (items-run s (tagsOf (r .mappings)) (length s) (p .items) (omega arith))
+    then-fine (λ at. andThen (openingAt s at) (readFrom s)) (start-run s (p .start) (p .begins))
+    ∙ then-fine (readFrom s) (opening-run s (p .start) (p .opens))
+    ∙ then-fine (λ b. fine (record { offset = r .offset; mappings = r .mappings; body = b })) (items-run s (tagsOf (r .mappings)) (length s) (p .items) (omega arith))
 
 pub reading-of : (s : List ℕ) (r : Read) → Bytes s → reading s ≡ fine r → PackRead s r
 unfolding reading readFrom

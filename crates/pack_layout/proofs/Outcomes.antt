@@ -1,5 +1,5 @@
 -- A result that came of two steps came of a result of the first.
-use mathlib.Core.Path.{_≡_, refl, ap}
+use mathlib.Core.Path.{_≡_, refl}
 use Rattle.runs.proofs.Cases.{absurd-eq}
 use Rattle.refusals.specs.Outcomes.{Outcome, fine, refused, andThen}
 
@@ -7,7 +7,3 @@ pub after : {A B : Type 0} (o : Outcome A) (next : A → Outcome B) {y : B} → 
 unfolding andThen
 after (fine x) next h = (x, refl, h)
 after (refused why place) next h = absurd-eq (cc)
-
-pub onward : {A B : Type 0} {o : Outcome A} {x : A} (next : A → Outcome B) → o ≡ fine x → andThen o next ≡ next x
-unfolding andThen
-onward next e = ap (λ (o : Outcome _). andThen o next) e

@@ -21,10 +21,11 @@ use Rattle.pack.specs.Config.{Mapping, tagsOf, labelsOf}
 use Rattle.pack.specs.Items.{Part}
 use Rattle.pack.specs.Reading.{Read}
 use Rattle.pack.specs.Meaning.{meantName, meant}
+use Rattle.pack.proofs.Payloads.{payload-within}
 use Rattle.pack_layout.specs.Layout.{Chunk, Entry, ConfigLaid, noConfig, config, chunksBytes, entriesBytes, configBytes, entryFor, saidChunk, offsetLaid, entriesLaid}
 use Rattle.pack_layout.specs.Well.{FormFits, WellChunks, WellConfig, chunksCount}
 use Rattle.pack_layout.proofs.Parts.{drop-take, two-back}
-use Rattle.pack_layout.proofs.Elements.{element-back, payload-next}
+use Rattle.pack_layout.proofs.Elements.{element-back}
 use Rattle.pack_layout.proofs.Accepts.{ItemsRead, ended, closed, nextPlain, nextSync}
 use Rattle.pack_layout.proofs.Opens.{MappingsRead, OpeningRead, noConfigRead, configRead, StartRead, PackRead}
 use Rattle.pack_layout.proofs.Entries.{entryOf, name-means}
@@ -64,7 +65,7 @@ start-laid s body form n e m fits small =
 -- what begins with an item, or with what closes a pack, does not begin with a Config
 no-config : {s tags : List ℕ} {at used : ℕ} {parts : List Part} {mark : Bool} → ItemsRead s tags at used parts mark
     → (v l : ℕ) → payloadAt s at ≡ Whole 1 v l → ⊥
-no-config {s} {at = at} (ended h) v l e = let x = payload-next s at 1 v l e in omega arith
+no-config {s} {at = at} (ended h) v l e = let x = payload-within s at 1 v l e in omega arith
 no-config (closed w f z c) v l e = absurd-eq (let i = sym f ∙ e in cc)
 no-config (nextPlain t w m f h u r) v l e = let z : t ≡ 1 = (let i = sym f ∙ e in cc) in omega arith
 no-config (nextSync w m xs f h u n i r) v l e = absurd-eq (let i = sym f ∙ e in cc)

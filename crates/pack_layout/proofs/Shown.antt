@@ -1,15 +1,16 @@
--- The rows of an accepted pack fit the struct `Reading`: each label is one of the mappings that it has room for.
-use mathlib.Core.List.{List, [], _∷_, _++_, map}
+-- The slots of an accepted pack fit the struct `Reading`: each label is one of the mappings that it has room for.
+use mathlib.Core.List.{List}
 use Prim.Native.Nat.{ℕ, _≤_}
 use native.Mathlib.Omega.{arith}
 use Rattle.runs.specs.Those.{Each}
+use Rattle.runs.proofs.Those.{each-map}
 use Rattle.pack.specs.Fixed.{mappingCap}
-use Rattle.pack.specs.Items.{Part, one, many}
-use Rattle.pack.specs.Slots.{slot, slots}
-use Rattle.pack.specs.Fits.{NameFits, SlotsFit}
+use Rattle.pack.specs.Items.{Part}
+use Rattle.pack.specs.Slots.{slots}
+use Rattle.pack.specs.Fits.{NameFits, ItemFits, SlotsFit}
 use Rattle.pack.specs.declared.Name.{Name}
 use Rattle.pack.specs.declared.Name.the-variants as N
-use Rattle.pack.specs.declared.Payload.{Payload}
+use Rattle.pack.specs.declared.Item.{Item}
 use Rattle.pack.specs.declared.Item.the-variants as I
 use Rattle.pack.specs.declared.Slot.{Slot}
 use Rattle.pack_layout.proofs.Bounds as B
@@ -19,12 +20,10 @@ module _ (s : List ℕ) (n : ℕ) (few : n ≤ mappingCap) where
   name-fits (N.Label i) h = omega arith
   name-fits (N.Number t) h = tt
 
-  inners-fit : (xs : List Payload) (rest : List Slot) → Each (B.PayloadLies s n) xs → SlotsFit rest → SlotsFit (map (λ (x : Payload). slot (I.Inner x)) xs ++ rest)
-  inners-fit [] rest h g = g
-  inners-fit (x ∷ xs) rest h g = (name-fits (x .name) (h .0 .named), inners-fit xs rest (h .1) g)
+  item-fits : (y : Item) → B.ItemLies s n y → ItemFits y
+  item-fits (I.Single x) h = name-fits (x .name) (h .named)
+  item-fits (I.Inner x) h = name-fits (x .name) (h .named)
+  item-fits (I.Sync y) h = tt
 
-  pub rows-fit : (ps : List Part) → Each (B.PartLies s n) ps → SlotsFit (slots ps)
-  unfolding slots
-  rows-fit [] h = tt
-  rows-fit (one x ∷ ps) h = (name-fits (x .name) (h .0 .named), rows-fit ps (h .1))
-  rows-fit (many hd xs ∷ ps) h = (tt, inners-fit xs (slots ps) (h .0 .1) (rows-fit ps (h .1)))
+  pub slots-fit : (ps : List Part) → Each (B.PartLies s n) ps → SlotsFit (slots ps)
+  slots-fit ps h = each-map (λ (w : Slot). item-fits (w .item)) (slots ps) (B.slots-lie s n ps h)

@@ -14,21 +14,14 @@ use Rattle.crc.specs.Crc.{crcOf}
 use Rattle.pack.specs.Fixed.{key, packCap}
 use Rattle.pack.specs.Reading.{Read, reading}
 use Rattle.pack.specs.Meaning.{meant}
-use Rattle.pack_layout.specs.Layout.{CrcLaid, crc, Description, chunksBytes, configBytes, contentBytes, beforeCrc, laid, layout, crcMark, says}
+use Rattle.pack_layout.specs.Layout.{CrcLaid, crc, Description, chunksBytes, configBytes, contentBytes, beforeCrc, laid, layout}
 use Rattle.pack_layout.specs.Well.{WellCrc, crcSize, WellFormed}
+use Rattle.pack_layout.specs.Agrees.{Sound}
 use Rattle.pack_layout.proofs.Parts.{grouped, counted}
 use Rattle.pack_layout.proofs.Opens.{PackRead, reading-of}
 use Rattle.pack_layout.proofs.Counts.{items-count}
 use Rattle.pack_layout.proofs.Described.{Closing, bare, withCrc, items-described, opening-described}
 use Rattle.pack_layout.proofs.Complete.{reading-complete}
-
--- the pack s, read as r, is the layout of a well-formed description that says what s means by r and has a CRC where one was found
-pub record Sound (s : List ℕ) (r : Read) : Type 0 where
-  pub description : Description
-  pub well : WellFormed description
-  pub gives : layout description ≡ s
-  pub means : says description ≡ meant s r
-  pub marks : crcMark (description .last) ≡ r .body .crc
 
 -- a description's bytes with the given end are s, whose value has n bytes
 record Gives (s : List ℕ) (d : Description) (last : CrcLaid) (n : ℕ) : Type 0 where

@@ -6,6 +6,7 @@ use Prim.Native.Nat.{ℕ, _+_, _<_, _≤_, _^_}
 use lib.ListN.{length}
 use Rattle.runs.specs.Digits.{Bytes}
 use Rattle.runs.specs.Same.{among, listed}
+use Rattle.runs.specs.Those.{Each}
 use Rattle.numbers.specs.Tags.{tagBytes}
 use Rattle.numbers.specs.Lengths.{longest, reach, formBytes}
 use Rattle.pack.specs.Fixed.{packCap, itemCap, mappingCap, utilityLabels}
@@ -22,9 +23,8 @@ pub record WellElement (x : Element) : Type 0 where
   pub fits : FormFits (x .form) (length (x .value))
   pub bytes : Bytes (x .value)
 
-unfoldable pub WellElements : List Element → Type 0
-WellElements [] = Unit
-WellElements (x ∷ r) = WellElement x × WellElements r
+abbrev pub WellElements : List Element → Type 0
+WellElements xs = Each WellElement xs
 
 -- a Sync holds at least one payload
 pub record WellGroup (form o d : ℕ) (xs : List Element) : Type 0 where
@@ -34,10 +34,12 @@ pub record WellGroup (form o d : ℕ) (xs : List Element) : Type 0 where
   pub some : 0 < length xs
   pub all : WellElements xs
 
-unfoldable pub WellChunks : List Chunk → Type 0
-WellChunks [] = Unit
-WellChunks (plain x ∷ r) = WellElement x × WellChunks r
-WellChunks (group form o d xs ∷ r) = WellGroup form o d xs × WellChunks r
+abbrev pub WellChunk : Chunk → Type 0
+WellChunk (plain x) = WellElement x
+WellChunk (group form o d xs) = WellGroup form o d xs
+
+abbrev pub WellChunks : List Chunk → Type 0
+WellChunks cs = Each WellChunk cs
 
 -- a mapping: no fixed tag, none of the three labels
 pub record WellEntry (m : Entry) : Type 0 where

@@ -23,29 +23,31 @@ use Rattle.pack.specs.Reading.{Read, reading}
 use Rattle.pack.specs.Slots.{slots, blank, padded, shown}
 use Rattle.pack.specs.Fits.{SlotsFit}
 use Rattle.pack.specs.declared.Reading.{Reading}
+use Rattle.pack.specs.Made.{made}
+use Rattle.pack.proofs.Made.{made-same}
 use Rattle.pack.proofs.Slots.{slots-count, slots-taken}
 use Rattle.pack_layout.proofs.Bounds.{reading-bounds}
-use Rattle.pack_layout.proofs.Shown.{rows-fit}
-use Rattle.pack_rows.specs.Rows.{packRow, itemRows, rowsOf, rowsRead}
-use Rattle.pack_rows.proofs.Laws.{length-rows, rows-padded}
+use Rattle.pack_layout.proofs.Shown.{slots-fit}
+use Rattle.pack_rows.specs.Rows.{packRow, itemRow, rowsOf, rowsRead}
+use Rattle.pack_rows.proofs.Laws.{length-rows, item-padded}
 
--- the numbers to write where n rows are shown: the pack's row, then those of the items
+-- the numbers to write where n slots are shown: the pack's row, then those of the slots
 abbrev pub numbers : Reading → ℕ → List ℕ
-numbers f n = packRow (f .offset) (f .crc) n ++ itemRows (f .labels) (take n (f .items))
+numbers f n = packRow (f .offset) (f .crc) n ++ made (itemRow (f .labels)) (take n (f .items))
 
-pub record Told (s : List ℕ) (f : Reading) (n : ℕ) : Type 0 where
+pub record Rows (s : List ℕ) (f : Reading) (n : ℕ) : Type 0 where
   pub few : n ≤ itemCap
   pub there : n ≤ length (f .items)
   pub fit : SlotsFit (take n (f .items))
-  pub size : length (itemRows (f .labels) (take n (f .items))) ≡ 8 * n
+  pub size : length (made (itemRow (f .labels)) (take n (f .items))) ≡ 8 * n
   pub whole : rowsRead s ≡ fine (numbers f n)
 
 -- with the pack's row
-long : {s : List ℕ} {f : Reading} {n : ℕ} → Told s f n → length (numbers f n) ≡ 8 * (1 + n)
+long : {s : List ℕ} {f : Reading} {n : ℕ} → Rows s f n → length (numbers f n) ≡ 8 * (1 + n)
 unfolding packRow
 long t = omega (arith, t .size)
 
-shown-rows : (s : List ℕ) → Bytes s → (o : Outcome Read) → reading s ≡ o → (n : ℕ) → shown o .answer ≡ A.Done n → Told s (shown o) n
+shown-rows : (s : List ℕ) → Bytes s → (o : Outcome Read) → reading s ≡ o → (n : ℕ) → shown o .answer ≡ A.Done n → Rows s (shown o) n
 unfolding shown andThen rowsOf
 shown-rows s b (fine r) e n h =
     let a = reading-bounds s b r e in
@@ -53,14 +55,14 @@ shown-rows s b (fine r) e n h =
     let places = placesOf (r .mappings) in
     let filled = padded mappingCap 0 places in
     let taken = slots-taken parts in
-    let same : itemRows filled (take (countOf parts) (padded itemCap blank (slots parts))) ≡ itemRows places (slots parts) =
-    ap (itemRows filled) taken ∙ rows-padded places (mappingCap - length places) (slots parts) in
+    let same : made (itemRow filled) (take (countOf parts) (padded itemCap blank (slots parts))) ≡ made (itemRow places) (slots parts) =
+    ap (made (itemRow filled)) taken ∙ made-same (itemRow filled) (itemRow places) (item-padded places (mappingCap - length places)) (slots parts) in
     let z : countOf parts ≡ n = cc in
-    subst (Told s (shown (fine r))) z
+    subst (Rows s (shown (fine r))) z
     (record {
       few = a .count;
       there = omega (arith, length-append (slots parts) (replicate (itemCap - length (slots parts)) blank), slots-count parts);
-      fit = subst SlotsFit (sym taken) (rows-fit s (length (r .mappings)) (a .mapped) parts (a .parts));
+      fit = subst SlotsFit (sym taken) (slots-fit s (length (r .mappings)) (a .mapped) parts (a .parts));
       size = omega (arith, ap length same, length-rows places (slots parts), slots-count parts);
       whole =
           ap (λ (o : Outcome Read). andThen o (λ (q : Read). fine (rowsOf q))) e
@@ -79,20 +81,20 @@ module _ (s before : List ℕ) where
 
   -- where the struct f shows how it reads
   module _ (b : Bytes s) (f : Reading) (e : f ≡ shown (reading s)) (n : ℕ) (h : f .answer ≡ A.Done n) where
-    pub rows-told : Told s f n
-    rows-told = subst (λ (g : Reading). Told s g n) (sym e) (shown-rows s b (reading s) refl n (sym (ap (λ (g : Reading). g .answer) e) ∙ h))
+    pub rows-shown : Rows s f n
+    rows-shown = subst (λ (g : Reading). Rows s g n) (sym e) (shown-rows s b (reading s) refl n (sym (ap (λ (g : Reading). g .answer) e) ∙ h))
 
     pub rows-noroom : length before < 8 * (1 + n) → Delivered outcome before (A.Refused R.NoRoom 0) before
     rows-noroom l =
-        let t = rows-told in
+        let t = rows-shown in
         delivered-refused (ap (within (length before)) (t .whole) ∙ none-within (length before) (numbers f n) (omega (arith, long t))) refl
 
     pub rows-done : {us after : List ℕ} {m k : ℕ} → 8 * (1 + n) ≤ length before → Wrote before 0 (packRow (f .offset) (f .crc) n) m us
-        → Wrote us m (itemRows (f .labels) (take n (f .items))) k after → Delivered outcome before (A.Done k) after
+        → Wrote us m (made (itemRow (f .labels)) (take n (f .items))) k after → Delivered outcome before (A.Done k) after
     rows-done {us} {after} {m} {k} l p q =
-        let t = rows-told in
+        let t = rows-shown in
         let first = packRow (f .offset) (f .crc) n in
-        let more = itemRows (f .labels) (take n (f .items)) in
+        let more = made (itemRow (f .labels)) (take n (f .items)) in
         let w = wrote-then first more (omega (arith, long t, length-append first more)) p q in
         delivered-fine (ap (within (length before)) (t .whole) ∙ fine-within (length before) (numbers f n) (omega (arith, long t)))
         (ap A.Done (w .next ∙ zero-add (length (numbers f n)))) (w .buffer)

@@ -14,7 +14,8 @@ use Rattle.pack.specs.Payloads.{valueFound, tagFound, payloadAt, innerAt, nameF
 use Rattle.pack.specs.Items.{judged, itemAt, someInside, itemsFrom, countOf}
 use Rattle.pack.specs.Reading.{valueStart, openingAt, readFrom, reading}
 use Rattle.pack.specs.Slots.{slots}
-use Rattle.pack_rows.specs.Rows.{extended, packRow, payloadRow, syncRow, itemRow, itemRows, rowsOf, rowsRead}
+use Rattle.pack.specs.Made.{made}
+use Rattle.pack_rows.specs.Rows.{extended, packRow, payloadRow, syncRow, itemRow, rowsOf, rowsRead}
 
 unfoldable pub example : List ℕ
 example = key ++ (0x08 ∷ 0x02 ∷ 0x06 ∷ 0xFF ∷ 0xFF ∷ 0x00 ∷ 0x00 ∷ 0x05 ∷ 0x00 ∷ [])
@@ -26,5 +27,5 @@ table =
     ++ (2 ∷ 23 ∷ 0 ∷ 5 ∷ 25 ∷ 0 ∷ 0 ∷ 0 ∷ []))
 
 pub worked : rowsRead example ≡ fine table
-unfolding example table key reading andThen valueStart same lengthAt openingAt payloadAt tagFound tagAt tagFrom valueFound readFrom itemsFrom itemAt judged innersFrom innerAt nameFrom someInside countOf bigAt numberFrom slots extended packRow payloadRow syncRow itemRow itemRows rowsOf
+unfolding example table key reading andThen valueStart same lengthAt openingAt payloadAt tagFound tagAt tagFrom valueFound readFrom itemsFrom itemAt judged innersFrom innerAt nameFrom someInside countOf bigAt numberFrom slots extended packRow payloadRow syncRow itemRow made rowsOf
 worked = refl

@@ -9,12 +9,12 @@ use Rattle.pack.specs.Config.{placesOf}
 use Rattle.pack.specs.Items.{countOf}
 use Rattle.pack.specs.Reading.{Read, reading}
 use Rattle.pack.specs.Slots.{slots}
+use Rattle.pack.specs.Made.{made}
 use Rattle.pack.specs.declared.Name.{Name}
 use Rattle.pack.specs.declared.Name.the-variants.{Label, Number}
 use Rattle.pack.specs.declared.Head.{Head}
 use Rattle.pack.specs.declared.Item.{Item}
 use Rattle.pack.specs.declared.Item.the-variants.{Single, Sync, Inner}
-use Rattle.pack.specs.declared.Slot.{Slot}
 
 -- a signed number, of whose 16 bits n is the number, in two's complement of 32 bits: its sign fills the upper 16
 unfoldable pub extended : ℕ → ℕ
@@ -40,14 +40,10 @@ itemRow places (Single x) = payloadRow places 0 (x .name) (x .start) (x .«value
 itemRow places (Sync h) = syncRow h
 itemRow places (Inner x) = payloadRow places 2 (x .name) (x .start) (x .«value_start») (x .«value_len»)
 
-unfoldable pub itemRows : List ℕ → List Slot → List ℕ
-itemRows places [] = []
-itemRows places (w ∷ ws) = itemRow places (w .item) ++ itemRows places ws
-
 -- the numbers of a reading: the pack's row, then a row for each item and inner payload in order
 unfoldable pub rowsOf : Read → List ℕ
 rowsOf r =
-    packRow (r .offset) (r .body .crc) (countOf (r .body .parts)) ++ itemRows (placesOf (r .mappings)) (slots (r .body .parts))
+    packRow (r .offset) (r .body .crc) (countOf (r .body .parts)) ++ made (itemRow (placesOf (r .mappings))) (slots (r .body .parts))
 
 -- those of the bytes s, or the refusal
 abbrev pub rowsRead : List ℕ → Outcome (List ℕ)

@@ -1,42 +1,52 @@
--- A line, written field by field: what is left of it shows the room for the next field, and the last field ends it.
-use mathlib.Core.Path.{_≡_, sym}
+-- A line, written field by field: what is left of it, and the last field ends it.
+use mathlib.Core.Path.{_≡_, sym, ap}
 use mathlib.Core.List.{List, [], _∷_, _++_, append-assoc, append-nil}
-use Prim.Native.Nat.{ℕ, _+_, _≤_}
+use Prim.Native.Nat.{ℕ, _+_, _<_, _≤_}
 use native.Mathlib.Omega.{arith}
 use lib.ListN.{length, length-append}
 use Rattle.runs.specs.Over.{Wrote}
 use Rattle.runs.proofs.Writing.{Writing, writing-as, writing-begins, writing-run, writing-done}
 use Rattle.pack_text.specs.Text.{line}
-
--- `whole` is to be written into xs from a on; us is the buffer so far, and the line of the fields that are left comes at `at`
-pub record Fields (xs : List ℕ) (a : ℕ) (whole us : List ℕ) (at : ℕ) (left : List (List ℕ)) : Type 0 where
-  pub writing : Writing xs a whole us at (line left)
+use Rattle.pack_text.specs.Fields.{sizes, FieldPut}
 
 -- all that is left is written
 pub writing-last : {xs whole us vs left : List ℕ} {a at n : ℕ} → Writing xs a whole us at left → Wrote us at left n vs → Wrote xs a whole n vs
 writing-last {left = left} w p = writing-done (writing-run left [] (writing-as (sym (append-nil left)) w) p)
 
-pub first-field : {xs whole : List ℕ} {a : ℕ} (left : List (List ℕ)) → whole ≡ line left → a + length whole ≤ length xs → Fields xs a whole xs a left
-first-field {xs} {whole} {a} left e h = record { writing = writing-as e (writing-begins xs a whole h) }
+-- a field with the byte after it: before it is written, and when it is
+pub field-begins : (xs : List ℕ) (at : ℕ) (text : List ℕ) (end : ℕ) → at + length text < length xs
+    → Writing xs at (text ++ (end ∷ [])) xs at (text ++ (end ∷ []))
+field-begins xs at text end h = writing-begins xs at (text ++ (end ∷ [])) (omega (arith, length-append text (end ∷ [])))
+
+pub field-put : {xs us : List ℕ} {at n : ℕ} (text : List ℕ) (end : ℕ) → Wrote xs at (text ++ (end ∷ [])) n us → FieldPut xs at text end n us
+field-put text end w = record { next = omega (arith, w .next, length-append text (end ∷ [])); wrote = w }
+
+-- a line is as long as its fields
+pub line-size : (left : List (List ℕ)) → 0 < length left → length (line left) ≡ sizes left
+unfolding line
+line-size [] h = absurd (omega arith)
+line-size (x ∷ []) h = omega (arith, length-append x (10 ∷ []))
+line-size (x ∷ y ∷ r) h = omega (arith, length-append x (32 ∷ line (y ∷ r)), line-size (y ∷ r) (omega arith))
+
+-- so where it has room, they have
+pub line-room : {l : List ℕ} (at n : ℕ) (left : List (List ℕ)) → 0 < length left → l ≡ line left → at + length l ≤ n → at + sizes left ≤ n
+line-room at n left some e h = omega (arith, ap length e, line-size left some)
+
+-- `whole` is to be written into xs from a on; us is the buffer so far, and the line of the fields that are left comes at `at`
+pub record Fields (xs : List ℕ) (a : ℕ) (whole us : List ℕ) (at : ℕ) (left : List (List ℕ)) : Type 0 where
+  pub writing : Writing xs a whole us at (line left)
+
+pub first-field : (xs : List ℕ) (a : ℕ) (left : List (List ℕ)) → 0 < length left → a + sizes left ≤ length xs → Fields xs a (line left) xs a left
+first-field xs a left some h = record { writing = writing-begins xs a (line left) (omega (arith, line-size left some)) }
 
 module _ {xs whole us : List ℕ} {a at : ℕ} where
-  -- another field follows
-  pub next-room : {x y : List ℕ} {r : List (List ℕ)} → Fields xs a whole us at (x ∷ y ∷ r) → at + length (x ++ (32 ∷ [])) ≤ length us
-  unfolding line
-  next-room {x} {y} {r} w = omega (arith, w .writing .room, length-append x (32 ∷ line (y ∷ r)), length-append x (32 ∷ []))
-
-  pub next-field : {x y vs : List ℕ} {r : List (List ℕ)} {n : ℕ} → Fields xs a whole us at (x ∷ y ∷ r) → Wrote us at (x ++ (32 ∷ [])) n vs
+  pub next-field : {x y vs : List ℕ} {r : List (List ℕ)} {n : ℕ} → Fields xs a whole us at (x ∷ y ∷ r) → FieldPut us at x 32 n vs
       → Fields xs a whole vs n (y ∷ r)
   unfolding line
   next-field {x} {y} {vs} {r} w p = record {
-    writing = writing-run (x ++ (32 ∷ [])) (line (y ∷ r)) (writing-as (sym (append-assoc x (32 ∷ []) (line (y ∷ r)))) (w .writing)) p;
+    writing = writing-run (x ++ (32 ∷ [])) (line (y ∷ r)) (writing-as (sym (append-assoc x (32 ∷ []) (line (y ∷ r)))) (w .writing)) (p .wrote);
   }
 
-  -- none follows
-  pub last-room : {x : List ℕ} → Fields xs a whole us at (x ∷ []) → at + length (x ++ (10 ∷ [])) ≤ length us
+  pub last-field : {x vs : List ℕ} {n : ℕ} → Fields xs a whole us at (x ∷ []) → FieldPut us at x 10 n vs → Wrote xs a whole n vs
   unfolding line
-  last-room w = w .writing .room
-
-  pub last-field : {x vs : List ℕ} {n : ℕ} → Fields xs a whole us at (x ∷ []) → Wrote us at (x ++ (10 ∷ [])) n vs → Wrote xs a whole n vs
-  unfolding line
-  last-field w p = writing-last (w .writing) p
+  last-field w p = writing-last (w .writing) (p .wrote)

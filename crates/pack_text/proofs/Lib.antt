@@ -1,8 +1,8 @@
+pub mod Figures
 pub mod Fields
-pub mod Rows
+pub mod Slots
 pub mod Shown
 pub mod Whole
 pub mod Within
 pub mod Worked
 pub mod One
-pub mod Figures

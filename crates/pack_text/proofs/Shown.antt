@@ -1,97 +1,91 @@
--- The rows that are shown of an accepted pack: their lines are those of its items, and their labels stand in the pack.
-use mathlib.Core.Path.{_≡_, refl, sym, ap, ap₂, subst, _∙_}
+-- The slots that are shown of an accepted pack: their lines are those of its items, and their labels stand in the pack.
+use mathlib.Core.Path.{_≡_, refl, sym, ap, subst, _∙_}
 use mathlib.Core.List.{List, [], _∷_, _++_, map, append-assoc}
 use Prim.Native.Nat.{ℕ, zero, suc, _+_, _-_, _<_, _≤_}
-use native.Mathlib.Nat.{not-suc-le-zero, lt-of-lt-of-le}
 use native.Mathlib.Omega.{arith}
-use lib.ListN.{length, getD, take, replicate, length-map, List·getD-append}
+use lib.ListN.{length, getD, take, replicate}
 use Rattle.runs.specs.Those.{Each}
-use Rattle.runs.proofs.Those.{each-append}
+use Rattle.runs.proofs.Those.{each-map}
 use Rattle.pack.specs.Fixed.{mappingCap, itemCap}
 use Rattle.pack.specs.Config.{Mapping, placesOf}
 use Rattle.pack.specs.Items.{Part, one, many, countOf}
 use Rattle.pack.specs.Reading.{Read}
 use Rattle.pack.specs.Slots.{slot, slots, blank, padded}
-use Rattle.pack.specs.Meaning.{stretch}
+use Rattle.pack.specs.Made.{made}
+use Rattle.pack.proofs.Made.{made-same, place-padded}
 use Rattle.pack.proofs.Slots.{slots-taken}
 use Rattle.pack.specs.declared.Name.{Name}
 use Rattle.pack.specs.declared.Name.the-variants.{Label, Number}
 use Rattle.pack.specs.declared.Payload.{Payload}
+use Rattle.pack.specs.declared.Item.{Item}
 use Rattle.pack.specs.declared.Item.the-variants as I
 use Rattle.pack.specs.declared.Slot.{Slot}
-use Rattle.pack_layout.proofs.Bounds.{NameFits, PayloadLies, PartLies, LabelLies, Accepted}
-use Rattle.pack_text.specs.Text.{labelLine, namedLine, payloadLines, partLines}
-use Rattle.pack_text.specs.Rows.{itemLine, rowLines, NameStands, RowStands, RowsStand}
+use Rattle.pack_layout.proofs.Bounds.{NameFits, ItemLies, slots-lie, LabelLies, Accepted}
+use Rattle.pack_text.specs.Text.{line, syncFields, namedLine, payloadLine, payloadLines, partLines}
+use Rattle.pack_text.specs.Slots.{itemLine, slotLines, NameStands, ItemStands, SlotsStand}
 
-rows-append : (s places : List ℕ) (xs ys : List Slot) → rowLines s places (xs ++ ys) ≡ rowLines s places xs ++ rowLines s places ys
-unfolding rowLines
-rows-append s places [] ys = refl
-rows-append s places (x ∷ xs) ys =
-    ap (λ (l : List ℕ). itemLine s places (x .item) ++ l) (rows-append s places xs ys)
-    ∙ sym (append-assoc (itemLine s places (x .item)) (rowLines s places xs) (rowLines s places ys))
+-- the lines of the slots of parts are those of the parts
+module _ (s places : List ℕ) where
+  inner-lines : (xs : List Payload) (ws : List Slot)
+      → slotLines s places (map (λ (x : Payload). slot (I.Inner x)) xs ++ ws) ≡ payloadLines s places xs ++ slotLines s places ws
+  unfolding made payloadLines
+  inner-lines [] ws = refl
+  inner-lines (x ∷ xs) ws =
+      ap (λ (l : List ℕ). payloadLine s places x ++ l) (inner-lines xs ws)
+      ∙ sym (append-assoc (payloadLine s places x) (payloadLines s places xs) (slotLines s places ws))
 
--- what fills up the places changes no name
-module _ (s places pad : List ℕ) where
-  name-line : (n : Name) (start len : ℕ) → NameFits (length places) n → namedLine s (places ++ pad) n start len ≡ namedLine s places n start len
+  pub lines-of : (ps : List Part) → slotLines s places (slots ps) ≡ partLines s places ps
+  unfolding made slots partLines
+  lines-of [] = refl
+  lines-of (one x ∷ r) = ap (λ (l : List ℕ). payloadLine s places x ++ l) (lines-of r)
+  lines-of (many h xs ∷ r) =
+      ap (λ (l : List ℕ). line (syncFields h) ++ l) (inner-lines xs (slots r) ∙ ap (λ (l : List ℕ). payloadLines s places xs ++ l) (lines-of r))
+
+-- what fills up the places changes no line
+module _ (s places : List ℕ) (k : ℕ) where
+  name-line : (n : Name) (start len : ℕ) → namedLine s (places ++ replicate k 0) n start len ≡ namedLine s places n start len
   unfolding namedLine
-  name-line (Label i) start len h = ap (λ (p : ℕ). labelLine start (stretch s p 16) len) (List·getD-append places pad 0 i h)
-  name-line (Number t) start len h = refl
+  name-line (Label i) start len = cc (place-padded k places i)
+  name-line (Number t) start len = refl
 
-  inner-lines : (xs : List Payload) → Each (PayloadLies s (length places)) xs
-      → rowLines s (places ++ pad) (map (λ (x : Payload). slot (I.Inner x)) xs) ≡ payloadLines s places xs
-  unfolding rowLines itemLine payloadLines
-  inner-lines [] h = refl
-  inner-lines (x ∷ xs) h = ap₂ (λ (a b : List ℕ). a ++ b) (name-line (x .name) (x .start) (x .«value_len») (h .0 .named)) (inner-lines xs (h .1))
+  item-line : (y : Item) → itemLine s (places ++ replicate k 0) y ≡ itemLine s places y
+  item-line (I.Single x) = name-line (x .name) (x .start) (x .«value_len»)
+  item-line (I.Inner x) = name-line (x .name) (x .start) (x .«value_len»)
+  item-line (I.Sync h) = refl
 
-  pub lines-of : (parts : List Part) → Each (PartLies s (length places)) parts → rowLines s (places ++ pad) (slots parts) ≡ partLines s places parts
-  unfolding rowLines itemLine slots partLines
-  lines-of [] h = refl
-  lines-of (one x ∷ r) h = ap₂ (λ (a b : List ℕ). a ++ b) (name-line (x .name) (x .start) (x .«value_len») (h .0 .named)) (lines-of r (h .1))
-  lines-of (many y xs ∷ r) h =
-      let inner = map (λ (x : Payload). slot (I.Inner x)) xs in
-      ap (λ (l : List ℕ). itemLine s (places ++ pad) (I.Sync y) ++ l)
-      (rows-append s (places ++ pad) inner (slots r) ∙ ap₂ (λ (a b : List ℕ). a ++ b) (inner-lines xs (h .0 .1)) (lines-of r (h .1)))
+-- labels that stand in the pack
+module _ (s : List ℕ) (ms : List Mapping) (few : length ms ≤ mappingCap) (lie : Each (LabelLies s) ms) (k : ℕ) where
+  label-stands : (ns : List Mapping) → Each (LabelLies s) ns → (i : ℕ) → i < length ns → getD (placesOf ns) i 0 + 16 ≤ length s
+  label-stands [] h i l = absurd (omega arith)
+  label-stands (m ∷ ns) h zero l = h .0 .ends
+  label-stands (m ∷ ns) h (suc i) l = label-stands ns (h .1) i (omega arith)
 
-  -- labels that stand in the pack
-  module _ (few : length places ≤ mappingCap) (stand : (i : ℕ) → i < length places → getD places i 0 + 16 ≤ length s) where
-    name-stands : (n : Name) → NameFits (length places) n → NameStands s (places ++ pad) n
-    name-stands (Label i) h =
-        (lt-of-lt-of-le h few, subst (λ (p : ℕ). p + 16 ≤ length s) (sym (List·getD-append places pad 0 i h)) (stand i h))
-    name-stands (Number t) h = tt
+  name-stands : (n : Name) → NameFits (length ms) n → NameStands s (placesOf ms ++ replicate k 0) n
+  name-stands (Label i) h = (omega arith, rw place-padded (label-stands ms lie i h))
+  name-stands (Number t) h = tt
 
-    inner-stand : (xs : List Payload) → Each (PayloadLies s (length places)) xs → RowsStand s (places ++ pad) (map (λ (x : Payload). slot (I.Inner x)) xs)
-    inner-stand [] h = tt
-    inner-stand (x ∷ xs) h = (name-stands (x .name) (h .0 .named), inner-stand xs (h .1))
+  item-stands : (y : Item) → ItemLies s (length ms) y → ItemStands s (placesOf ms ++ replicate k 0) y
+  item-stands (I.Single x) h = name-stands (x .name) (h .named)
+  item-stands (I.Inner x) h = name-stands (x .name) (h .named)
+  item-stands (I.Sync y) h = tt
 
-    pub stand-of : (parts : List Part) → Each (PartLies s (length places)) parts → RowsStand s (places ++ pad) (slots parts)
-    unfolding slots
-    stand-of [] h = tt
-    stand-of (one x ∷ r) h = (name-stands (x .name) (h .0 .named), stand-of r (h .1))
-    stand-of (many y xs ∷ r) h =
-        (tt, each-append (RowStands s (places ++ pad)) (map (λ (x : Payload). slot (I.Inner x)) xs) (slots r) (inner-stand xs (h .0 .1)) (stand-of r (h .1)))
-
-labels-stand : (s : List ℕ) (ms : List Mapping) → Each (LabelLies s) ms → (i : ℕ) → i < length (placesOf ms) → getD (placesOf ms) i 0 + 16 ≤ length s
-labels-stand s [] h i l = absurd (not-suc-le-zero l)
-labels-stand s (m ∷ ms) h zero l = h .0 .ends
-labels-stand s (m ∷ ms) h (suc i) l = labels-stand s ms (h .1) i (omega arith)
-
--- the two facts of an accepted pack, as the loop over its rows asks for them
+-- the two facts of an accepted pack, as the loop over its slots asks for them
 module _ (s : List ℕ) (r : Read) (a : Accepted s r) where
-  places-length : length (placesOf (r .mappings)) ≡ length (r .mappings)
-  places-length = length-map (r .mappings) (λ (m : Mapping). m .place)
+  abbrev filled : List ℕ
+  filled = padded mappingCap 0 (placesOf (r .mappings))
 
-  parts-lie : Each (PartLies s (length (placesOf (r .mappings)))) (r .body .parts)
-  parts-lie = subst (λ (n : ℕ). Each (PartLies s n) (r .body .parts)) (sym places-length) (a .parts)
+  abbrev first : List Slot
+  first = take (countOf (r .body .parts)) (padded itemCap blank (slots (r .body .parts)))
 
-  pub accepted-lines : rowLines s (padded mappingCap 0 (placesOf (r .mappings))) (take (countOf (r .body .parts)) (padded itemCap blank (slots (r .body .parts))))
-      ≡ partLines s (placesOf (r .mappings)) (r .body .parts)
+  pub accepted-lines : slotLines s filled first ≡ partLines s (placesOf (r .mappings)) (r .body .parts)
   accepted-lines =
       let places = placesOf (r .mappings) in
-      ap (rowLines s (padded mappingCap 0 places)) (slots-taken (r .body .parts))
-      ∙ lines-of s places (replicate (mappingCap - length places) 0) (r .body .parts) parts-lie
+      ap (slotLines s filled) (slots-taken (r .body .parts))
+      ∙ made-same (itemLine s filled) (itemLine s places) (item-line s places (mappingCap - length places)) (slots (r .body .parts)) ∙ lines-of s places (r .body .parts)
 
-  pub accepted-stand : RowsStand s (padded mappingCap 0 (placesOf (r .mappings))) (take (countOf (r .body .parts)) (padded itemCap blank (slots (r .body .parts))))
+  pub accepted-stand : SlotsStand s filled first
   accepted-stand =
-      let places = placesOf (r .mappings) in
-      subst (RowsStand s (padded mappingCap 0 places)) (sym (slots-taken (r .body .parts)))
-      (stand-of s places (replicate (mappingCap - length places) 0) (omega (arith, a .mapped, places-length)) (labels-stand s (r .mappings) (a .labels)) (r .body .parts) parts-lie)
+      let k = mappingCap - length (placesOf (r .mappings)) in
+      subst (SlotsStand s filled) (sym (slots-taken (r .body .parts)))
+      (each-map (λ (w : Slot). item-stands s (r .mappings) (a .mapped) (a .labels) k (w .item)) (slots (r .body .parts))
+      (slots-lie s (length (r .mappings)) (r .body .parts) (a .parts)))

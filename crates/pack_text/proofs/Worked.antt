@@ -13,7 +13,7 @@ use Rattle.pack.specs.Payloads.{valueFound, tagFound, payloadAt, innerAt, nameF
 use Rattle.pack.specs.Items.{judged, itemAt, someInside, itemsFrom, countOf}
 use Rattle.pack.specs.Reading.{valueStart, openingAt, readFrom, reading}
 use Rattle.pack_text.specs.Figures.{sizeFrom, decimal, integer}
-use Rattle.pack_text.specs.Text.{line, packLine, syncLine, numberLine, namedLine, payloadLines, partLines, listing}
+use Rattle.pack_text.specs.Text.{line, namedLine, payloadLines, partLines, listing}
 
 unfoldable pub example : List ℕ
 example = key ++ (0x08 ∷ 0x02 ∷ 0x06 ∷ 0xFF ∷ 0xFF ∷ 0x00 ∷ 0x00 ∷ 0x05 ∷ 0x00 ∷ [])
@@ -26,5 +26,5 @@ text =
     ++ (110 ∷ 117 ∷ 109 ∷ 98 ∷ 101 ∷ 114 ∷ 32 ∷ 50 ∷ 51 ∷ 32 ∷ 53 ∷ 32 ∷ 48 ∷ 10 ∷ []))
 
 pub worked : listing example (reading example) ≡ text
-unfolding example text key listing reading andThen valueStart same lengthAt openingAt payloadAt tagFound tagAt tagFrom valueFound readFrom itemsFrom itemAt judged innersFrom innerAt nameFrom someInside countOf bigAt numberFrom signed digits sizeFrom decimal integer line packLine syncLine numberLine namedLine payloadLines partLines
+unfolding example text key listing reading andThen valueStart same lengthAt openingAt payloadAt tagFound tagAt tagFrom valueFound readFrom itemsFrom itemAt judged innersFrom innerAt nameFrom someInside countOf bigAt numberFrom signed digits sizeFrom decimal integer line namedLine payloadLines partLines
 worked = refl

@@ -1,3 +1,4 @@
-pub mod Text
-pub mod Rows
 pub mod Figures
+pub mod Text
+pub mod Fields
+pub mod Slots

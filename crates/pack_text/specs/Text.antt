@@ -47,25 +47,25 @@ abbrev pub crcWord : Bool → List ℕ
 crcWord crc = cond crc (103 ∷ 111 ∷ 111 ∷ 100 ∷ []) (110 ∷ 111 ∷ 110 ∷ 101 ∷ [])
 
 -- the pack: its offset, of whose 16 bits o is the number; items and inner payloads together; the CRC
-unfoldable pub packLine : ℕ → ℕ → Bool → List ℕ
-packLine o count crc = line (packWord ∷ integer (signed o) ∷ decimal count ∷ crcWord crc ∷ [])
+abbrev pub packFields : ℕ → ℕ → Bool → List (List ℕ)
+packFields o count crc = packWord ∷ integer (signed o) ∷ decimal count ∷ crcWord crc ∷ []
 
 -- a Sync: start, sample_offset, duration, payloads inside
-unfoldable pub syncLine : Head → List ℕ
-syncLine h = line (syncWord ∷ decimal (h .start) ∷ integer (signed (h .offset)) ∷ decimal (h .duration) ∷ decimal (h .inside) ∷ [])
+abbrev pub syncFields : Head → List (List ℕ)
+syncFields h = syncWord ∷ decimal (h .start) ∷ integer (signed (h .offset)) ∷ decimal (h .duration) ∷ decimal (h .inside) ∷ []
 
 -- a payload known by its tag number: start, tag, value length
-unfoldable pub numberLine : ℕ → ℕ → ℕ → List ℕ
-numberLine start tag len = line (numberWord ∷ decimal start ∷ decimal tag ∷ decimal len ∷ [])
+abbrev pub numberFields : ℕ → ℕ → ℕ → List (List ℕ)
+numberFields start tag len = numberWord ∷ decimal start ∷ decimal tag ∷ decimal len ∷ []
 
 -- a payload known by its label: start, the label's 16 bytes in hex, value length
-unfoldable pub labelLine : ℕ → List ℕ → ℕ → List ℕ
-labelLine start label len = line (labelWord ∷ decimal start ∷ hex label ∷ decimal len ∷ [])
+abbrev pub labelFields : ℕ → List ℕ → ℕ → List (List ℕ)
+labelFields start label len = labelWord ∷ decimal start ∷ hex label ∷ decimal len ∷ []
 
 -- a payload by its name; the label of the i-th mapping is the 16 bytes of the pack s at the i-th of the places
 unfoldable pub namedLine : List ℕ → List ℕ → Name → ℕ → ℕ → List ℕ
-namedLine s places (Label i) start len = labelLine start (stretch s (getD places i 0) 16) len
-namedLine s places (Number t) start len = numberLine start t len
+namedLine s places (Label i) start len = line (labelFields start (stretch s (getD places i 0) 16) len)
+namedLine s places (Number t) start len = line (numberFields start t len)
 
 abbrev pub payloadLine : List ℕ → List ℕ → Payload → List ℕ
 payloadLine s places x = namedLine s places (x .name) (x .start) (x .«value_len»)
@@ -78,14 +78,14 @@ payloadLines s places (x ∷ xs) = payloadLine s places x ++ payloadLines s plac
 unfoldable pub partLines : List ℕ → List ℕ → List Part → List ℕ
 partLines s places [] = []
 partLines s places (one x ∷ r) = payloadLine s places x ++ partLines s places r
-partLines s places (many h xs ∷ r) = syncLine h ++ (payloadLines s places xs ++ partLines s places r)
+partLines s places (many h xs ∷ r) = line (syncFields h) ++ (payloadLines s places xs ++ partLines s places r)
 
 -- a refusal: its number in document 01's table and its place
-unfoldable pub refusedLine : ℕ → ℕ → List ℕ
-refusedLine number place = line (refusedWord ∷ decimal number ∷ decimal place ∷ [])
+abbrev pub refusedFields : ℕ → ℕ → List (List ℕ)
+refusedFields number place = refusedWord ∷ decimal number ∷ decimal place ∷ []
 
 -- the listing of the pack s, read as told
 unfoldable pub listing : List ℕ → Outcome Read → List ℕ
 listing s (fine r) =
-    packLine (r .offset) (countOf (r .body .parts)) (r .body .crc) ++ partLines s (placesOf (r .mappings)) (r .body .parts)
-listing s (refused why place) = refusedLine (numberOf why) place
+    line (packFields (r .offset) (countOf (r .body .parts)) (r .body .crc)) ++ partLines s (placesOf (r .mappings)) (r .body .parts)
+listing s (refused why place) = line (refusedFields (numberOf why) place)

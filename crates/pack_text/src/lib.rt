@@ -1,15 +1,15 @@
-// Numbers and bytes as text, written into a lent buffer.
+// The text of a reading: a line for the pack and one for each item and inner payload, or one line for a refusal, written into a lent buffer.
 ghost use mathlib.Core.Path.{_≡_};
 ghost use Prim.Native.Nat.{_+_, _≤_, _<_, _^_};
 ghost use lib.ListN.{length, take};
 ghost use Rattle.runs.specs.Over.{Wrote};
+ghost use Rattle.numbers.specs.Big.{signed};
 ghost use Rattle.pack.specs.Reading.{reading as Reading·reading};
 ghost use Rattle.pack.specs.Slots.{shown};
-ghost use Rattle.pack_text.specs.Text.{packLine, syncLine, numberLine, labelLine, payloadLine, refusedLine, listing};
-ghost use Rattle.pack_text.specs.Rows.{itemLine, rowLines, NameStands, ItemStands, RowsStand};
-ghost use mathlib.Core.List.{_++_, _∷_, []};
-ghost use Rattle.numbers.specs.Big.{signed};
 ghost use Rattle.pack_text.specs.Figures.{sizeFrom, decimal, integer, hexDigit, hex};
+ghost use Rattle.pack_text.specs.Text.{line, packFields, syncFields, numberFields, labelFields, refusedFields, payloadLine, listing};
+ghost use Rattle.pack_text.specs.Fields.{sizes, FieldPut};
+ghost use Rattle.pack_text.specs.Slots.{itemLine, slotLines, NameStands, ItemStands, SlotsStand};
 use pack::Head;
 use pack::Item;
 use pack::Name;
@@ -17,151 +17,6 @@ use pack::Payload;
 use pack::Reading;
 use pack::Slot;
 use refusals::Answer;
-
-// The line of the pack: its offset, the count of items and inner payloads, and whether a CRC stood there.
-fn put_pack(out: &mut [u8], at: usize, offset: u16, count: usize, crc: bool) -> usize
-    requires { ⌜ at + length (packLine offset count crc) ≤ length (now out) ⌝ }
-    ensures { λ r. ⌜ Wrote (now (out .entry)) at (packLine offset count crc) r (now (out .exit)) ⌝ }
-{
-    let offset_at = put_word(out, at, b"pack", b' ');
-    let count_at = put_signed(out, offset_at, offset, b' ');
-    let crc_at = put_decimal(out, count_at, count as u64, b' ');
-    if crc {
-        put_word(out, crc_at, b"good", b'\n')
-    } else {
-        put_word(out, crc_at, b"none", b'\n')
-    }
-}
-
-// The line of a Sync.
-fn put_sync(out: &mut [u8], at: usize, head: Head) -> usize
-    requires { ⌜ at + length (syncLine head) ≤ length (now out) ⌝ }
-    ensures { λ r. ⌜ Wrote (now (out .entry)) at (syncLine head) r (now (out .exit)) ⌝ }
-{
-    let start = head.start;
-    let offset = head.offset;
-    let duration = head.duration;
-    let inside = head.inside;
-    let start_at = put_word(out, at, b"sync", b' ');
-    let offset_at = put_decimal(out, start_at, start as u64, b' ');
-    let duration_at = put_signed(out, offset_at, offset, b' ');
-    let inside_at = put_decimal(out, duration_at, duration as u64, b' ');
-    put_decimal(out, inside_at, inside as u64, b'\n')
-}
-
-// The line of a payload that is known by its tag number.
-fn put_number(out: &mut [u8], at: usize, start: u32, tag: u32, len: u32) -> usize
-    requires { ⌜ at + length (numberLine start tag len) ≤ length (now out) ⌝ }
-    ensures { λ r. ⌜ Wrote (now (out .entry)) at (numberLine start tag len) r (now (out .exit)) ⌝ }
-{
-    let start_at = put_word(out, at, b"number", b' ');
-    let tag_at = put_decimal(out, start_at, start as u64, b' ');
-    let len_at = put_decimal(out, tag_at, tag as u64, b' ');
-    put_decimal(out, len_at, len as u64, b'\n')
-}
-
-// The line of a payload that is known by its label.
-fn put_label(out: &mut [u8], at: usize, start: u32, label: &[u8], len: u32) -> usize
-    requires { ⌜ at + length (labelLine start (now label) len) ≤ length (now out) ⌝ }
-    ensures { λ r. ⌜ Wrote (now (out .entry)) at (labelLine start (now (label .entry)) len) r (now (out .exit)) ⌝ }
-{
-    let start_at = put_word(out, at, b"label", b' ');
-    let label_at = put_decimal(out, start_at, start as u64, b' ');
-    let len_at = put_hex(out, label_at, label, b' ');
-    put_decimal(out, len_at, len as u64, b'\n')
-}
-
-// The line of a refusal.
-fn put_refused(out: &mut [u8], at: usize, number: u32, place: usize) -> usize
-    requires { ⌜ at + length (refusedLine number place) ≤ length (now out) ⌝ }
-    ensures { λ r. ⌜ Wrote (now (out .entry)) at (refusedLine number place) r (now (out .exit)) ⌝ }
-{
-    let number_at = put_word(out, at, b"refused", b' ');
-    let place_at = put_decimal(out, number_at, number as u64, b' ');
-    put_decimal(out, place_at, place as u64, b'\n')
-}
-
-// The line of a payload. `places` says where the labels of the mappings stand in the pack.
-fn put_payload(out: &mut [u8], at: usize, pack: &[u8], places: [u32; 32], payload: Payload) -> usize
-    requires { ⌜ (at + length (payloadLine (now pack) places payload) ≤ length (now out)) × NameStands (now pack) places (payload .name) ⌝ }
-    ensures { λ r. ⌜ Wrote (now (out .entry)) at (payloadLine (now (pack .entry)) places payload) r (now (out .exit)) ⌝ }
-{
-    let name = payload.name;
-    let start = payload.start;
-    let len = payload.value_len;
-    match name {
-        Name::Label(i) => {
-            let from = places[i as usize] as usize;
-            let to = from + 16;
-            put_label(out, at, start, &pack[from..to], len)
-        }
-        Name::Number(tag) => put_number(out, at, start, tag, len),
-    }
-}
-
-// The line of a row.
-fn put_item(out: &mut [u8], at: usize, pack: &[u8], places: [u32; 32], item: Item) -> usize
-    requires { ⌜ (at + length (itemLine (now pack) places item) ≤ length (now out)) × ItemStands (now pack) places item ⌝ }
-    ensures { λ r. ⌜ Wrote (now (out .entry)) at (itemLine (now (pack .entry)) places item) r (now (out .exit)) ⌝ }
-{
-    match item {
-        Item::Single(payload) => put_payload(out, at, pack, places, payload),
-        Item::Sync(head) => put_sync(out, at, head),
-        Item::Inner(payload) => put_payload(out, at, pack, places, payload),
-    }
-}
-
-// The lines of the first `count` rows.
-fn put_rows(
-    out: &mut [u8],
-    at: usize,
-    pack: &[u8],
-    places: [u32; 32],
-    rows: [Slot; 64],
-    count: usize,
-) -> usize
-    requires { ⌜ (count ≤ 64) × (at + length (rowLines (now pack) places (take count rows)) ≤ length (now out)) × RowsStand (now pack) places (take count rows) ⌝ }
-    ensures { λ r. ⌜ Wrote (now (out .entry)) at (rowLines (now (pack .entry)) places (take count rows)) r (now (out .exit)) ⌝ }
-{
-    let mut next = at;
-    let mut i: usize = 0;
-    while i < count {
-        let row = rows[i];
-        let item = row.item;
-        next = put_item(out, next, pack, places, item);
-        i += 1;
-    }
-    next
-}
-
-// The listing of a pack whose reading is given.
-fn put_reading(out: &mut [u8], pack: &[u8], found: Reading) -> usize
-    requires { ⌜ (found ≡ shown (Reading·reading (now pack))) × (4096 ≤ length (now out)) ⌝ }
-    ensures { λ r. ⌜ Wrote (now (out .entry)) 0 (listing (now (pack .entry)) (Reading·reading (now (pack .entry)))) r (now (out .exit)) ⌝ }
-    ensures { λ r. ⌜ r ≤ length (now (out .exit)) ⌝ }
-{
-    let answer = found.answer;
-    let offset = found.offset;
-    let crc = found.crc;
-    let places = found.labels;
-    let rows = found.items;
-    match answer {
-        Answer::Done(count) => {
-            let next = put_pack(out, 0, offset, count, crc);
-            put_rows(out, next, pack, places, rows, count)
-        }
-        Answer::Refused { why, place } => put_refused(out, 0, refusals::number(why), place),
-    }
-}
-
-// Lists the pack: writes its listing at the start of `out` and answers how long it is. Whatever the bytes are, it fits.
-pub fn list(pack: &[u8], out: &mut [u8; 4096]) -> usize
-    ensures { λ r. ⌜ Wrote (now (out .entry)) 0 (listing (now (pack .entry)) (Reading·reading (now (pack .entry)))) r (now (out .exit)) ⌝ }
-    ensures { λ r. ⌜ r ≤ length (now (out .exit)) ⌝ }
-{
-    let found = pack_read::read(pack);
-    put_reading(out, pack, found)
-}
 
 // The powers of ten below 2^64.
 const POWERS: [u64; 20] = [
@@ -208,12 +63,20 @@ fn decimal_size(n: u64) -> usize
     size
 }
 
+// The capital hex digit of `d`.
+fn hex_digit(d: u8) -> u8
+    requires { ⌜ d < 16 ⌝ }
+    ensures { λ r. ⌜ r ≡ hexDigit d ⌝ }
+{
+    if d < 10 { 48 + d } else { 55 + d }
+}
+
 // Each of the next four writes a field and the byte after it, a space or a newline, and answers the place after that.
 // The caller has seen that they fit.
 
 fn put_word(out: &mut [u8], at: usize, word: &[u8], end: u8) -> usize
-    requires { ⌜ at + length (now word ++ (end ∷ [])) ≤ length (now out) ⌝ }
-    ensures { λ r. ⌜ Wrote (now (out .entry)) at (now (word .entry) ++ (end ∷ [])) r (now (out .exit)) ⌝ }
+    requires { ⌜ at + length (now word) < length (now out) ⌝ }
+    ensures { λ r. ⌜ FieldPut (now (out .entry)) at (now (word .entry)) end r (now (out .exit)) ⌝ }
 {
     let next = runs::copy(out, at, word);
     out[next] = end;
@@ -221,8 +84,8 @@ fn put_word(out: &mut [u8], at: usize, word: &[u8], end: u8) -> usize
 }
 
 fn put_decimal(out: &mut [u8], at: usize, n: u64, end: u8) -> usize
-    requires { ⌜ at + length (decimal n ++ (end ∷ [])) ≤ length (now out) ⌝ }
-    ensures { λ r. ⌜ Wrote (now (out .entry)) at (decimal n ++ (end ∷ [])) r (now (out .exit)) ⌝ }
+    requires { ⌜ at + length (decimal n) < length (now out) ⌝ }
+    ensures { λ r. ⌜ FieldPut (now (out .entry)) at (decimal n) end r (now (out .exit)) ⌝ }
 {
     let mut next = at;
     let mut left = decimal_size(n);
@@ -237,8 +100,8 @@ fn put_decimal(out: &mut [u8], at: usize, n: u64, end: u8) -> usize
 
 // The 16 bits of `n` are a number in two's complement.
 fn put_signed(out: &mut [u8], at: usize, n: u16, end: u8) -> usize
-    requires { ⌜ at + length (integer (signed n) ++ (end ∷ [])) ≤ length (now out) ⌝ }
-    ensures { λ r. ⌜ Wrote (now (out .entry)) at (integer (signed n) ++ (end ∷ [])) r (now (out .exit)) ⌝ }
+    requires { ⌜ at + length (integer (signed n)) < length (now out) ⌝ }
+    ensures { λ r. ⌜ FieldPut (now (out .entry)) at (integer (signed n)) end r (now (out .exit)) ⌝ }
 {
     if n < 32768 {
         return put_decimal(out, at, n as u64, end);
@@ -247,16 +110,9 @@ fn put_signed(out: &mut [u8], at: usize, n: u16, end: u8) -> usize
     put_decimal(out, at + 1, 65536 - n as u64, end)
 }
 
-fn hex_digit(d: u8) -> u8
-    requires { ⌜ d < 16 ⌝ }
-    ensures { λ r. ⌜ r ≡ hexDigit d ⌝ }
-{
-    if d < 10 { 48 + d } else { 55 + d }
-}
-
 fn put_hex(out: &mut [u8], at: usize, bytes: &[u8], end: u8) -> usize
-    requires { ⌜ at + length (hex (now bytes) ++ (end ∷ [])) ≤ length (now out) ⌝ }
-    ensures { λ r. ⌜ Wrote (now (out .entry)) at (hex (now (bytes .entry)) ++ (end ∷ [])) r (now (out .exit)) ⌝ }
+    requires { ⌜ at + length (hex (now bytes)) < length (now out) ⌝ }
+    ensures { λ r. ⌜ FieldPut (now (out .entry)) at (hex (now (bytes .entry))) end r (now (out .exit)) ⌝ }
 {
     let mut next = at;
     let mut i: usize = 0;
@@ -269,4 +125,149 @@ fn put_hex(out: &mut [u8], at: usize, bytes: &[u8], end: u8) -> usize
     }
     out[next] = end;
     next + 1
+}
+
+// The line of the pack: its offset, the count of items and inner payloads, and whether a CRC stood there.
+fn put_pack(out: &mut [u8], at: usize, offset: u16, count: usize, crc: bool) -> usize
+    requires { ⌜ at + sizes (packFields offset count crc) ≤ length (now out) ⌝ }
+    ensures { λ r. ⌜ Wrote (now (out .entry)) at (line (packFields offset count crc)) r (now (out .exit)) ⌝ }
+{
+    let offset_at = put_word(out, at, b"pack", b' ');
+    let count_at = put_signed(out, offset_at, offset, b' ');
+    let crc_at = put_decimal(out, count_at, count as u64, b' ');
+    if crc {
+        put_word(out, crc_at, b"good", b'\n')
+    } else {
+        put_word(out, crc_at, b"none", b'\n')
+    }
+}
+
+// The line of a Sync.
+fn put_sync(out: &mut [u8], at: usize, head: Head) -> usize
+    requires { ⌜ at + sizes (syncFields head) ≤ length (now out) ⌝ }
+    ensures { λ r. ⌜ Wrote (now (out .entry)) at (line (syncFields head)) r (now (out .exit)) ⌝ }
+{
+    let start = head.start;
+    let offset = head.offset;
+    let duration = head.duration;
+    let inside = head.inside;
+    let start_at = put_word(out, at, b"sync", b' ');
+    let offset_at = put_decimal(out, start_at, start as u64, b' ');
+    let duration_at = put_signed(out, offset_at, offset, b' ');
+    let inside_at = put_decimal(out, duration_at, duration as u64, b' ');
+    put_decimal(out, inside_at, inside as u64, b'\n')
+}
+
+// The line of a payload that is known by its tag number.
+fn put_number(out: &mut [u8], at: usize, start: u32, tag: u32, len: u32) -> usize
+    requires { ⌜ at + sizes (numberFields start tag len) ≤ length (now out) ⌝ }
+    ensures { λ r. ⌜ Wrote (now (out .entry)) at (line (numberFields start tag len)) r (now (out .exit)) ⌝ }
+{
+    let start_at = put_word(out, at, b"number", b' ');
+    let tag_at = put_decimal(out, start_at, start as u64, b' ');
+    let len_at = put_decimal(out, tag_at, tag as u64, b' ');
+    put_decimal(out, len_at, len as u64, b'\n')
+}
+
+// The line of a payload that is known by its label.
+fn put_label(out: &mut [u8], at: usize, start: u32, label: &[u8], len: u32) -> usize
+    requires { ⌜ at + sizes (labelFields start (now label) len) ≤ length (now out) ⌝ }
+    ensures { λ r. ⌜ Wrote (now (out .entry)) at (line (labelFields start (now (label .entry)) len)) r (now (out .exit)) ⌝ }
+{
+    let start_at = put_word(out, at, b"label", b' ');
+    let label_at = put_decimal(out, start_at, start as u64, b' ');
+    let len_at = put_hex(out, label_at, label, b' ');
+    put_decimal(out, len_at, len as u64, b'\n')
+}
+
+// The line of a refusal.
+fn put_refused(out: &mut [u8], at: usize, number: u32, place: usize) -> usize
+    requires { ⌜ at + sizes (refusedFields number place) ≤ length (now out) ⌝ }
+    ensures { λ r. ⌜ Wrote (now (out .entry)) at (line (refusedFields number place)) r (now (out .exit)) ⌝ }
+{
+    let number_at = put_word(out, at, b"refused", b' ');
+    let place_at = put_decimal(out, number_at, number as u64, b' ');
+    put_decimal(out, place_at, place as u64, b'\n')
+}
+
+// The line of a payload. `places` says where the labels of the mappings stand in the pack.
+fn put_payload(out: &mut [u8], at: usize, pack: &[u8], places: [u32; 32], payload: Payload) -> usize
+    requires { ⌜ (at + length (payloadLine (now pack) places payload) ≤ length (now out)) × NameStands (now pack) places (payload .name) ⌝ }
+    ensures { λ r. ⌜ Wrote (now (out .entry)) at (payloadLine (now (pack .entry)) places payload) r (now (out .exit)) ⌝ }
+{
+    let name = payload.name;
+    let start = payload.start;
+    let len = payload.value_len;
+    match name {
+        Name::Label(i) => {
+            let from = places[i as usize] as usize;
+            let to = from + 16;
+            put_label(out, at, start, &pack[from..to], len)
+        }
+        Name::Number(tag) => put_number(out, at, start, tag, len),
+    }
+}
+
+// The line of an item.
+fn put_item(out: &mut [u8], at: usize, pack: &[u8], places: [u32; 32], item: Item) -> usize
+    requires { ⌜ (at + length (itemLine (now pack) places item) ≤ length (now out)) × ItemStands (now pack) places item ⌝ }
+    ensures { λ r. ⌜ Wrote (now (out .entry)) at (itemLine (now (pack .entry)) places item) r (now (out .exit)) ⌝ }
+{
+    match item {
+        Item::Single(payload) => put_payload(out, at, pack, places, payload),
+        Item::Sync(head) => put_sync(out, at, head),
+        Item::Inner(payload) => put_payload(out, at, pack, places, payload),
+    }
+}
+
+// The lines of the first `count` slots.
+fn put_slots(
+    out: &mut [u8],
+    at: usize,
+    pack: &[u8],
+    places: [u32; 32],
+    slots: [Slot; 64],
+    count: usize,
+) -> usize
+    requires { ⌜ (count ≤ 64) × (at + length (slotLines (now pack) places (take count slots)) ≤ length (now out)) × SlotsStand (now pack) places (take count slots) ⌝ }
+    ensures { λ r. ⌜ Wrote (now (out .entry)) at (slotLines (now (pack .entry)) places (take count slots)) r (now (out .exit)) ⌝ }
+{
+    let mut next = at;
+    let mut i: usize = 0;
+    while i < count {
+        let slot = slots[i];
+        let item = slot.item;
+        next = put_item(out, next, pack, places, item);
+        i += 1;
+    }
+    next
+}
+
+// The listing of a pack whose reading is given.
+fn put_reading(out: &mut [u8], pack: &[u8], found: Reading) -> usize
+    requires { ⌜ (found ≡ shown (Reading·reading (now pack))) × (4096 ≤ length (now out)) ⌝ }
+    ensures { λ r. ⌜ Wrote (now (out .entry)) 0 (listing (now (pack .entry)) (Reading·reading (now (pack .entry)))) r (now (out .exit)) ⌝ }
+    ensures { λ r. ⌜ r ≤ length (now (out .exit)) ⌝ }
+{
+    let answer = found.answer;
+    let offset = found.offset;
+    let crc = found.crc;
+    let places = found.labels;
+    let slots = found.items;
+    match answer {
+        Answer::Done(count) => {
+            let next = put_pack(out, 0, offset, count, crc);
+            put_slots(out, next, pack, places, slots, count)
+        }
+        Answer::Refused { why, place } => put_refused(out, 0, refusals::number(why), place),
+    }
+}
+
+// Lists the pack: writes its listing at the start of `out` and answers how long it is. Whatever the bytes are, it fits.
+pub fn list(pack: &[u8], out: &mut [u8; 4096]) -> usize
+    ensures { λ r. ⌜ Wrote (now (out .entry)) 0 (listing (now (pack .entry)) (Reading·reading (now (pack .entry)))) r (now (out .exit)) ⌝ }
+    ensures { λ r. ⌜ r ≤ length (now (out .exit)) ⌝ }
+{
+    let found = pack_read::read(pack);
+    put_reading(out, pack, found)
 }

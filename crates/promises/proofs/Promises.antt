@@ -37,6 +37,7 @@ use Rattle.pack_text.specs.Text.{listing}
 use Rattle.pack_text.proofs.One as listings
 use Rattle.pack_layout.specs.Layout.{Description}
 use Rattle.pack_layout.specs.Well.{WellFormed}
+use Rattle.pack_layout.specs.Agrees.{Sound, Complete}
 use Rattle.pack_layout.proofs.Complete as complete
 use Rattle.pack_layout.proofs.Sound as sound
 use Rattle.runs.specs.Those.{those, Each}
@@ -98,11 +99,11 @@ crc-residue = serial.crc-residue
 
 -- Every accepted pack is the layout of a well-formed description (offset, mappings, items, a form for each length, a CRC or none), and its reading
 -- means what the description says.
-pub reading-sound : (s : List ℕ) → Bytes s → (r : Read) → reading s ≡ fine r → sound.Sound s r
+pub reading-sound : (s : List ℕ) → Bytes s → (r : Read) → reading s ≡ fine r → Sound s r
 reading-sound = sound.reading-sound
 
 -- The layout of every well-formed description is accepted, and its reading means what the description says.
-pub reading-complete : (d : Description) → WellFormed d → complete.Complete d
+pub reading-complete : (d : Description) → WellFormed d → Complete d
 reading-complete = complete.reading-complete
 
 -- Two readings that meet the contract of `read` on the same bytes coincide, unused slots included; so do two answers of `check`, and the answer of

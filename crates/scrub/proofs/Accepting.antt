@@ -16,7 +16,7 @@ use Rattle.pack.specs.Fits.{SlotsFit}
 use Rattle.pack.specs.Meaning.{meant}
 use Rattle.pack.proofs.Padded.{take-padded}
 use Rattle.pack.proofs.Slots.{slots-taken}
-use Rattle.pack_layout.proofs.Shown.{rows-fit}
+use Rattle.pack_layout.proofs.Shown.{slots-fit}
 use Rattle.scrub_kept.specs.Sheet.{Sheet}
 use Rattle.scrub_kept.specs.Kept.{kept}
 use Rattle.scrub_names.specs.declared.Mark.{Mark}
@@ -56,7 +56,7 @@ module _ (s : List ℕ) (bytes : Bytes s) {offset mapped : ℕ} {stood : List �
 
   pub note-asks : SlotsFit (take count items)
   note-asks =
-      let acc = a s bytes r (g .is) sh in rw items-are (rows-fit s (length (r .mappings)) (acc .mapped) (r .body .parts) (acc .parts))
+      let acc = a s bytes r (g .is) sh in rw items-are (slots-fit s (length (r .mappings)) (acc .mapped) (r .body .parts) (acc .parts))
 
   pub plan-asks : RowsSmall (take count items)
   plan-asks =

@@ -151,7 +151,7 @@ module _ (ls : List (List ℕ)) (ms : List Entry) where
 
   payloads-well : (xs : List SaidPayload) → Each (Tagged ms) (map (λ (x : SaidPayload). x .name) xs) → Each (SayablePayload ls) xs
       → length (elementsBytes (map (asElement ms) xs)) ≤ packCap → WellElements (map (asElement ms) xs)
-  unfolding elementsBytes WellElements
+  unfolding elementsBytes
   payloads-well [] t p h = search
   payloads-well (x ∷ xs) t p h =
       let e = asElement ms x in
@@ -160,7 +160,7 @@ module _ (ls : List (List ℕ)) (ms : List Entry) where
 
   items-well : (xs : List SaidItem) → Each (Tagged ms) (names xs) → Each (SayableItem ls) xs → length (chunksBytes (map (asChunk ms) xs)) ≤ packCap
       → WellChunks (map (asChunk ms) xs)
-  unfolding names chunksBytes WellChunks
+  unfolding names chunksBytes
   items-well [] t p h = search
   items-well (single x ∷ r) t p h =
       let e = asElement ms x in

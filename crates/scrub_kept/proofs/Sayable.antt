@@ -94,12 +94,10 @@ module _ (ms : List Entry) where
   element-says x w = record { named = tag-means ms (x .tag) (w .above) (w .below); bytes = w .bytes }
 
   elements-say : (xs : List Element) → WellElements xs → Each (SayablePayload (entryLabels ms)) (map (saidElement ms) xs)
-  unfolding WellElements
   elements-say [] w = search
   elements-say (x ∷ xs) w = (element-says x (w .0), elements-say xs (w .1))
 
   chunks-say : (cs : List Chunk) → WellChunks cs → Each (SayableItem (entryLabels ms)) (map (saidChunk ms) cs)
-  unfolding WellChunks
   chunks-say [] w = search
   chunks-say (plain x ∷ cs) w = (element-says x (w .0), chunks-say cs (w .1))
   chunks-say (group form o d xs ∷ cs) w =

@@ -1,58 +1,40 @@
 -- `pack_rows::item_row` meets its contract. By the item.
-use mathlib.Core.Path.{_∙_}
+use mathlib.Core.Path.{_≡_, sym, ap, _∙_}
 use borrow.Author.Needs.{needs}
+use Rattle.pack.specs.declared.Item.{Item}
 use Rattle.pack.proofs.Slots.{single-fits, inner-fits}
-use Rattle.pack_rows.proofs.Laws.{row-single, row-inner, row-sync}
+use Rattle.pack_rows.specs.Rows.{itemRow}
+use Rattle.pack_rows.proofs.Laws.{row-sync}
 use Rattle.pack_rows.proofs.item_row.Statement.{statement}
 use Rattle.pack_rows.proofs.item_row.Tie as tie
 
-enum-known-item : tie.Need-enum-known-item
-enum-known-item c = search needs
-
-payload-row-requires : tie.Need-payload-row-requires
-payload-row-requires c κs = single-fits _ (c .before .item .given .1) (c .before .before .before .pre)
-
-enum-known-item-2 : tie.Need-enum-known-item-2
-enum-known-item-2 c = search needs
-
-payload-row-requires-2 : tie.Need-payload-row-requires-2
-payload-row-requires-2 c κs = inner-fits _ (c .before .item2 .given .1) (c .before .before .before .pre)
-
-enum-known-item-3 : tie.Need-enum-known-item-3
-enum-known-item-3 c = search needs
-
-extended-requires : tie.Need-extended-requires
-extended-requires c κs = search needs
-
-cast-t8 : tie.Need-cast-t8
-cast-t8 c = search needs
+-- the row of what the item is
+as-row : (b : tie.Start) {y : Item} → let a = b .args in a .item ≡ y → itemRow (a .places .now) y ≡ itemRow (a .places .now) (a .item)
+as-row b e = ap (itemRow (b .args .places .now)) (sym e)
 
 returns : tie.Need-returns
-returns c =
-    let k = c .before in
-    c .payload-row .ensures ∙ row-single (k .before .before .before .args .places .now) _ (k .before .item .given .1)
+unfolding itemRow
+returns c = let k = c .before .before in c .payload-row .ensures ∙ as-row (k .before .before) (k .item .given .1)
 
 returns-2 : tie.Need-returns-2
-returns-2 c =
-    let k = c .before in
-    c .payload-row2 .ensures ∙ row-inner (k .before .before .before .args .places .now) _ (k .before .item2 .given .1)
+unfolding itemRow
+returns-2 c = let k = c .before .before in c .payload-row2 .ensures ∙ as-row (k .before .before) (k .item2 .given .1)
 
 returns-3 : tie.Need-returns-3
-returns-3 c =
-    let k = c .before .before in
-    row-sync (k .before .before .before .args .places .now) _ (k .before .item3 .given .1) (c .before .extended .ensures)
+unfolding itemRow
+returns-3 c = let k = c .before .before .before in row-sync _ (c .before .extended .ensures) ∙ as-row (k .before .before) (k .item3 .given .1)
 
 pub item-row-spec : {M : Type 1} → statement M
 item-row-spec =
     tie.close
     (tie.spec
-    enum-known-item
-    payload-row-requires
-    enum-known-item-2
-    payload-row-requires-2
-    enum-known-item-3
-    extended-requires
-    cast-t8
+    (λ c. search needs)
+    (λ c κs. single-fits _ (c .before .item .given .1) (c .before .before .before .pre))
+    (λ c. search needs)
+    (λ c κs. inner-fits _ (c .before .item2 .given .1) (c .before .before .before .pre))
+    (λ c. search needs)
+    (λ c κs. search needs)
+    (λ c. search needs)
     returns
     returns-2
     returns-3)

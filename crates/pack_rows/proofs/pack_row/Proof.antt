@@ -7,15 +7,6 @@ use Rattle.pack_rows.specs.Rows.{packRow}
 use Rattle.pack_rows.proofs.pack_row.Statement.{statement}
 use Rattle.pack_rows.proofs.pack_row.Tie as tie
 
-extended-requires : tie.Need-extended-requires
-extended-requires c κs = search needs
-
-mark-requires : tie.Need-mark-requires
-mark-requires c κs = search needs
-
-cast-t6 : tie.Need-cast-t6
-cast-t6 c = search needs
-
 returns : tie.Need-returns
 unfolding packRow
 returns c =
@@ -23,4 +14,4 @@ returns c =
     ap₂ (λ (o m : ℕ). o ∷ m ∷ n ∷ 0 ∷ 0 ∷ 0 ∷ 0 ∷ 0 ∷ []) (c .before .extended .ensures) (c .mark .ensures)
 
 pub pack-row-spec : {M : Type 1} → statement M
-pack-row-spec = tie.close (tie.spec extended-requires mark-requires cast-t6 returns)
+pack-row-spec = tie.close (tie.spec (λ c κs. search needs) (λ c κs. search needs) (λ c. search needs) returns)

@@ -16,9 +16,6 @@ abbrev μ-loop : tie.MeasureT-loop
 loop-holds : tie.Need-loop-holds Inv-loop μ-loop
 loop-holds c = (omega arith, refl)
 
-power-requires : tie.Need-power-requires Inv-loop μ-loop
-power-requires c κs = omega arith
-
 -- what the test says of the power
 below : (c : tie.Then1 Inv-loop μ-loop) → let b = c .before .before .before in b .before .args .n < 10 ^ b .loop .size
 below c = let b = c .before .before .before in subst (λ (m : ℕ). b .before .args .n < m) (c .before .power .ensures) (c .if1 .taken)
@@ -30,12 +27,6 @@ returns : tie.Need-returns Inv-loop μ-loop
 returns c =
     let b = c .before .before .before in
     size-here (b .loop .size) (b .before .args .n) (omega arith) (below c) ∙ b .loop .inv .1
-
-add-size : tie.Need-add-size Inv-loop μ-loop
-add-size c = omega arith
-
-loop-less : tie.Need-loop-less Inv-loop μ-loop
-loop-less c = omega arith
 
 loop-again : tie.Need-loop-again Inv-loop μ-loop
 loop-again c =
@@ -54,9 +45,9 @@ decimal-size-spec =
     Inv-loop
     μ-loop
     loop-holds
-    power-requires
+    (λ c κs. omega arith)
     returns
-    add-size
-    loop-less
+    (λ c. omega arith)
+    (λ c. omega arith)
     loop-again
     returns-2)

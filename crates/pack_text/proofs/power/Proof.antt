@@ -15,15 +15,9 @@ powers = 1 ∷ 10 ∷ 100 ∷ 1000 ∷ 10000 ∷ 100000 ∷ 1000000 ∷ 10000000
 right : ℕ → ℕ → Bool
 right k x = eqb x (10 ^ k)
 
-mul-result : tie.Need-mul-result
-mul-result c = search needs
-
-array-read-result : tie.Need-array-read-result
-array-read-result c = search needs
-
 returns : tie.Need-returns
 unfolding powers right
 returns c = eqb→eq (getD powers (c .args .k) 0) (10 ^ c .args .k) (at right powers tt (c .args .k) (search needs))
 
 pub power-spec : {M : Type 1} → statement M
-power-spec = tie.close (tie.spec mul-result array-read-result returns)
+power-spec = tie.close (tie.spec (λ c. search needs) (λ c. search needs) returns)

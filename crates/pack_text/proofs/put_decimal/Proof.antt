@@ -6,9 +6,10 @@ use borrow.Author.Needs.{needs}
 use native.Mathlib.Omega.{arith}
 use lib.ListN.{length, length-append}
 use Rattle.runs.proofs.Digits.{power-pos}
-use Rattle.runs.proofs.Writing.{Writing, writing-begins, writing-as, writing-byte, writing-done}
+use Rattle.runs.proofs.Writing.{Writing, writing-as, writing-byte, writing-done}
 use Rattle.pack_text.specs.Figures.{decimal}
 use Rattle.pack_text.proofs.Figures.{figures, length-figures, figures-turn, figures-none, size-most}
+use Rattle.pack_text.proofs.Fields.{field-begins, field-put}
 use Rattle.pack_text.proofs.put_decimal.Statement.{statement}
 use Rattle.pack_text.proofs.put_decimal.Tie as tie
 
@@ -35,41 +36,14 @@ last c =
     let l = c .before .loop in
     writing-as (figures-none (l .left) (a .n) (a .end ∷ []) (omega arith)) (l .inv .1)
 
-decimal-size-requires : tie.Need-decimal-size-requires Inv-loop μ-loop
-decimal-size-requires c κs = search needs
-
 loop-holds : tie.Need-loop-holds Inv-loop μ-loop
 unfolding decimal
 loop-holds c =
     let a = c .before .before .args in
     let e = c .decimal-size .ensures in (
       omega (arith, e, size-most (a .n)),
-      writing-as (ap (λ (k : ℕ). figures k (a .n) ++ (a .end ∷ [])) (sym e)) (writing-begins (a .out .now) (a .at) (decimal (a .n) ++ (a .end ∷ [])) (search needs)),
+      writing-as (ap (λ (k : ℕ). figures k (a .n) ++ (a .end ∷ [])) (sym e)) (field-begins (a .out .now) (a .at) (decimal (a .n)) (a .end) (search needs)),
     )
-
-sub-left : tie.Need-sub-left Inv-loop μ-loop
-sub-left c = omega arith
-
-power-requires : tie.Need-power-requires Inv-loop μ-loop
-power-requires c κs = omega arith
-
-div-out : tie.Need-div-out Inv-loop μ-loop
-div-out c = subst (λ (m : ℕ). 0 < m) (sym (c .power .ensures)) (power-pos 10 (c .before .before .loop .left - 1) (omega arith))
-
-add-out : tie.Need-add-out Inv-loop μ-loop
-add-out c = omega arith
-
-cast-out : tie.Need-cast-out Inv-loop μ-loop
-cast-out c = omega arith
-
-slice-write-out : tie.Need-slice-write-out Inv-loop μ-loop
-slice-write-out c = omega (arith, room (c .before))
-
-add-next : tie.Need-add-next Inv-loop μ-loop
-add-next c = omega (arith, room (c .before))
-
-loop-less : tie.Need-loop-less Inv-loop μ-loop
-loop-less c = omega arith
 
 loop-again : tie.Need-loop-again Inv-loop μ-loop
 loop-again c =
@@ -77,17 +51,8 @@ loop-again c =
     let l = c .before .before .loop in
     (omega arith, figures-turn (l .left) (a .n) _ (a .end ∷ []) (omega arith) (ap (λ (p : ℕ). 48 + a .n / p % 10) (c .power .ensures)) (l .inv .1))
 
-slice-write-out-2 : tie.Need-slice-write-out-2 Inv-loop μ-loop
-slice-write-out-2 c = omega (arith, last c .room)
-
-add-result : tie.Need-add-result Inv-loop μ-loop
-add-result c = omega (arith, last c .room)
-
-same-length : tie.Need-same-length Inv-loop μ-loop
-same-length c = (writing-byte _ [] (last c)) .same
-
 returns : tie.Need-returns Inv-loop μ-loop
-returns c = writing-done (writing-byte _ [] (last c))
+returns c = let a = c .before .before .before .before .args in field-put (decimal (a .n)) (a .end) (writing-done (writing-byte _ [] (last c)))
 
 pub put-decimal-spec : {M : Type 1} → statement M
 put-decimal-spec =
@@ -95,18 +60,18 @@ put-decimal-spec =
     (tie.spec
     Inv-loop
     μ-loop
-    decimal-size-requires
+    (λ c κs. search needs)
     loop-holds
-    sub-left
-    power-requires
-    div-out
-    add-out
-    cast-out
-    slice-write-out
-    add-next
-    loop-less
+    (λ c. omega arith)
+    (λ c κs. omega arith)
+    (λ c. subst (λ (m : ℕ). 0 < m) (sym (c .power .ensures)) (power-pos 10 (c .before .before .loop .left - 1) (omega arith)))
+    (λ c. omega arith)
+    (λ c. omega arith)
+    (λ c. omega (arith, room (c .before)))
+    (λ c. omega (arith, room (c .before)))
+    (λ c. omega arith)
     loop-again
-    slice-write-out-2
-    add-result
-    same-length
+    (λ c. omega (arith, last c .room))
+    (λ c. omega (arith, last c .room))
+    (λ c. (writing-byte _ [] (last c)) .same)
     returns)

@@ -4,9 +4,10 @@ use mathlib.Core.List.{[], _∷_, _++_}
 use borrow.Author.Needs.{needs}
 use native.Mathlib.Omega.{arith}
 use lib.ListN.{length, drop, length-set}
-use Rattle.runs.proofs.Writing.{Writing, writing-begins, writing-as, writing-byte, writing-done}
+use Rattle.runs.proofs.Writing.{Writing, writing-as, writing-byte, writing-done}
 use Rattle.pack_text.specs.Figures.{hex}
 use Rattle.pack_text.proofs.Figures.{hex-none, hex-room, hex-turn}
+use Rattle.pack_text.proofs.Fields.{field-begins, field-put}
 use Rattle.pack_text.proofs.put_hex.Statement.{statement}
 use Rattle.pack_text.proofs.put_hex.Tie as tie
 
@@ -18,9 +19,7 @@ abbrev μ-loop : tie.MeasureT-loop
 
 -- what is left where the loop goes on, and where it ends
 more : (c : tie.After-shared-slice-known2 Inv-loop μ-loop)
-    → let a = c .before .before .before .before .before .args in
-    let l = c .before .before .loop in
-    l .next + 2 ≤ length (l .out)
+    → let l = c .before .before .loop in l .next + 2 ≤ length (l .out)
 more c =
     let a = c .before .before .before .before .before .args in
     let l = c .before .before .loop in
@@ -36,34 +35,10 @@ last c =
     writing-as (hex-none (a .bytes .now) (l .i) (a .end ∷ []) (omega arith)) (l .inv .1)
 
 loop-holds : tie.Need-loop-holds Inv-loop μ-loop
-loop-holds c = let a = c .before .before .args in (omega arith, writing-begins (a .out .now) (a .at) (hex (a .bytes .now) ++ (a .end ∷ [])) (search needs))
-
-shared-slice-read-byte : tie.Need-shared-slice-read-byte Inv-loop μ-loop
-shared-slice-read-byte c = omega arith
-
-hex-digit-requires : tie.Need-hex-digit-requires Inv-loop μ-loop
-hex-digit-requires c κs = omega (arith, c .shared-slice-known2 .given (c .before .before .loop .i))
-
-slice-write-out : tie.Need-slice-write-out Inv-loop μ-loop
-slice-write-out c = omega (arith, more (c .before))
-
-hex-digit-requires-2 : tie.Need-hex-digit-requires-2 Inv-loop μ-loop
-hex-digit-requires-2 c κs = omega arith
-
-add-out : tie.Need-add-out Inv-loop μ-loop
-add-out c = omega (arith, more (c .before .before))
+loop-holds c = let a = c .before .before .args in (omega arith, field-begins (a .out .now) (a .at) (hex (a .bytes .now)) (a .end) (search needs))
 
 slice-write-out-2 : tie.Need-slice-write-out-2 Inv-loop μ-loop
 slice-write-out-2 c = simp length-set (omega (arith, more (c .before .before)))
-
-add-next : tie.Need-add-next Inv-loop μ-loop
-add-next c = omega (arith, more (c .before .before))
-
-add-i : tie.Need-add-i Inv-loop μ-loop
-add-i c = omega arith
-
-loop-less : tie.Need-loop-less Inv-loop μ-loop
-loop-less c = omega arith
 
 loop-again : tie.Need-loop-again Inv-loop μ-loop
 loop-again c =
@@ -71,17 +46,8 @@ loop-again c =
     let l = c .before .before .before .before .loop in
     (omega arith, hex-turn (a .bytes .now) (l .i) (a .end ∷ []) (omega arith) (l .inv .1) (c .before .hex-digit .ensures) (c .hex-digit2 .ensures))
 
-slice-write-out-3 : tie.Need-slice-write-out-3 Inv-loop μ-loop
-slice-write-out-3 c = omega (arith, last c .room)
-
-add-result : tie.Need-add-result Inv-loop μ-loop
-add-result c = omega (arith, last c .room)
-
-same-length : tie.Need-same-length Inv-loop μ-loop
-same-length c = (writing-byte _ [] (last c)) .same
-
 returns : tie.Need-returns Inv-loop μ-loop
-returns c = writing-done (writing-byte _ [] (last c))
+returns c = let a = c .before .before .before .before .args in field-put (hex (a .bytes .now)) (a .end) (writing-done (writing-byte _ [] (last c)))
 
 pub put-hex-spec : {M : Type 1} → statement M
 put-hex-spec =
@@ -90,17 +56,17 @@ put-hex-spec =
     Inv-loop
     μ-loop
     loop-holds
-    shared-slice-read-byte
-    hex-digit-requires
-    slice-write-out
-    hex-digit-requires-2
-    add-out
+    (λ c. omega arith)
+    (λ c κs. omega (arith, c .shared-slice-known2 .given (c .before .before .loop .i)))
+    (λ c. omega (arith, more (c .before)))
+    (λ c κs. omega arith)
+    (λ c. omega (arith, more (c .before .before)))
     slice-write-out-2
-    add-next
-    add-i
-    loop-less
+    (λ c. omega (arith, more (c .before .before)))
+    (λ c. omega arith)
+    (λ c. omega arith)
     loop-again
-    slice-write-out-3
-    add-result
-    same-length
+    (λ c. omega (arith, last c .room))
+    (λ c. omega (arith, last c .room))
+    (λ c. (writing-byte _ [] (last c)) .same)
     returns)

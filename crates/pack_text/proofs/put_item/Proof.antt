@@ -1,90 +1,38 @@
--- `pack_text::put_item` meets its contract: each case of a row is a line of its own.
-use Prim.Native.Nat.{ℕ, _+_, _≤_}
-use mathlib.Core.Path.{sym, subst}
-use mathlib.Core.List.{List}
+-- `pack_text::put_item` meets its contract: each case of an item is a line of its own.
+use Prim.Native.Nat.{_+_, _≤_}
+use mathlib.Core.Path.{_≡_, refl, sym, ap}
 use borrow.Author.Needs.{needs}
+use native.Mathlib.Omega.{arith}
 use lib.ListN.{length}
 use Rattle.runs.proofs.Over.{wrote-as}
-use Rattle.pack_text.proofs.Rows.{line-single, line-sync, line-inner, single-stands, inner-stands}
+use Rattle.pack.specs.declared.Item.{Item}
+use Rattle.pack_text.specs.Slots.{itemLine, ItemStands}
+use Rattle.pack_text.proofs.Fields.{line-room}
+use Rattle.pack_text.proofs.Slots.{item-is}
 use Rattle.pack_text.proofs.put_item.Statement.{statement}
 use Rattle.pack_text.proofs.put_item.Tie as tie
 
-enum-known-item : tie.Need-enum-known-item
-enum-known-item c = search needs
+-- what is asked and written, by what the item is
+room : (b : tie.Start) {y : Item}
+    → let a = b .args in a .item ≡ y → (a .at + length (itemLine (a .pack .now) (a .places) y) ≤ length (a .out .now)) × ItemStands (a .pack .now) (a .places) y
+room b e = let a = b .args in item-is (a .pack .now) (a .places) (a .at) (length (a .out .now)) e (b .pre)
 
-put-payload-requires : tie.Need-put-payload-requires
-put-payload-requires c κs =
-    let k = c .before .before in
-    let b = k .before .before .before .before in
-    let a = b .args in
-    let x = k .item .given .0 .0 in
-    let fits = subst (λ (l : List ℕ). a .at + length l ≤ length (a .out .now)) (line-single (a .pack .now) (a .places) (a .item) x (k .item .given .1)) (b .pre .0) in
-    (fits, single-stands (a .pack .now) (a .places) (a .item) x (k .item .given .1) (b .pre .1))
-
-enum-known-item-2 : tie.Need-enum-known-item-2
-enum-known-item-2 c = search needs
-
-put-sync-requires : tie.Need-put-sync-requires
-put-sync-requires c κs =
-    let k = c .before .before in
-    let b = k .before .before .before .before in
-    let a = b .args in
-    let x = k .item2 .given .0 .0 in
-    let fits = subst (λ (l : List ℕ). a .at + length l ≤ length (a .out .now)) (line-sync (a .pack .now) (a .places) (a .item) x (k .item2 .given .1)) (b .pre .0) in
-    fits
-
-enum-known-item-3 : tie.Need-enum-known-item-3
-enum-known-item-3 c = search needs
-
-put-payload-requires-2 : tie.Need-put-payload-requires-2
-put-payload-requires-2 c κs =
-    let k = c .before .before in
-    let b = k .before .before .before .before in
-    let a = b .args in
-    let x = k .item3 .given .0 .0 in
-    let fits = subst (λ (l : List ℕ). a .at + length l ≤ length (a .out .now)) (line-inner (a .pack .now) (a .places) (a .item) x (k .item3 .given .1)) (b .pre .0) in
-    (fits, inner-stands (a .pack .now) (a .places) (a .item) x (k .item3 .given .1) (b .pre .1))
-
-same-length : tie.Need-same-length
-same-length c = search needs
-
-returns : tie.Need-returns
-returns c =
-    let k = c .before .before .before .before .before in
-    let a = k .before .before .before .before .args in
-    wrote-as (sym (line-single (a .pack .now) (a .places) (a .item) (k .item .given .0 .0) (k .item .given .1))) (c .before .before .put-payload .ensures)
-
-same-length-2 : tie.Need-same-length-2
-same-length-2 c = search needs
-
-returns-2 : tie.Need-returns-2
-returns-2 c =
-    let k = c .before .before .before .before .before in
-    let a = k .before .before .before .before .args in
-    wrote-as (sym (line-sync (a .pack .now) (a .places) (a .item) (k .item2 .given .0 .0) (k .item2 .given .1))) (c .before .before .put-sync .ensures)
-
-same-length-3 : tie.Need-same-length-3
-same-length-3 c = search needs
-
-returns-3 : tie.Need-returns-3
-returns-3 c =
-    let k = c .before .before .before .before .before in
-    let a = k .before .before .before .before .args in
-    wrote-as (sym (line-inner (a .pack .now) (a .places) (a .item) (k .item3 .given .0 .0) (k .item3 .given .1))) (c .before .before .put-payload2 .ensures)
+as-line : (b : tie.Start) {y : Item} → let a = b .args in a .item ≡ y → itemLine (a .pack .now) (a .places) y ≡ itemLine (a .pack .now) (a .places) (a .item)
+as-line b e = let a = b .args in ap (itemLine (a .pack .now) (a .places)) (sym e)
 
 pub put-item-spec : {M : Type 1} → statement M
 put-item-spec =
     tie.close
     (tie.spec
-    enum-known-item
-    put-payload-requires
-    enum-known-item-2
-    put-sync-requires
-    enum-known-item-3
-    put-payload-requires-2
-    same-length
-    returns
-    same-length-2
-    returns-2
-    same-length-3
-    returns-3)
+    (λ c. search needs)
+    (λ c κs. let k = c .before .before in room (k .before .before .before .before) (k .item .given .1))
+    (λ c. search needs)
+    (λ c κs. let k = c .before .before in line-room _ _ _ (omega arith) refl (room (k .before .before .before .before) (k .item2 .given .1) .0))
+    (λ c. search needs)
+    (λ c κs. let k = c .before .before in room (k .before .before .before .before) (k .item3 .given .1))
+    (λ c. search needs)
+    (λ c. let k = c .before .before .before .before .before in wrote-as (as-line (k .before .before .before .before) (k .item .given .1)) (c .before .before .put-payload .ensures))
+    (λ c. search needs)
+    (λ c. let k = c .before .before .before .before .before in wrote-as (as-line (k .before .before .before .before) (k .item2 .given .1)) (c .before .before .put-sync .ensures))
+    (λ c. search needs)
+    (λ c. let k = c .before .before .before .before .before in wrote-as (as-line (k .before .before .before .before) (k .item3 .given .1)) (c .before .before .put-payload2 .ensures)))

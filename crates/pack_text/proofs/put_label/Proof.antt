@@ -1,62 +1,30 @@
 -- `pack_text::put_label` meets its contract: one field after the other.
-use mathlib.Core.Path.{refl}
-use mathlib.Core.List.{[], _∷_}
 use borrow.Author.Needs.{needs}
-use Rattle.pack_text.specs.Figures.{decimal, hex}
-use Rattle.pack_text.specs.Text.{labelWord, labelLine}
-use Rattle.pack_text.proofs.Fields.{Fields, first-field, next-room, next-field, last-room, last-field}
+use native.Mathlib.Omega.{arith}
+use Rattle.pack_text.specs.Text.{labelFields}
+use Rattle.pack_text.proofs.Fields.{first-field, next-field, last-field}
 use Rattle.pack_text.proofs.put_label.Statement.{statement}
 use Rattle.pack_text.proofs.put_label.Tie as tie
 
--- what is left of the line before its word, and after each field
-at-word : (c : tie.After-put-word-arg2) → let a = c .before .before .before .before .args in Fields (a .out .now) (a .at) (labelLine (a .start) (a .label .now) (a .len)) (a .out .now) (a .at) (labelWord ∷ decimal (a .start) ∷ hex (a .label .now) ∷ decimal (a .len) ∷ [])
-unfolding labelLine
-at-word c = let b = c .before .before .before .before in first-field (labelWord ∷ decimal (b .args .start) ∷ hex (b .args .label .now) ∷ decimal (b .args .len) ∷ []) refl (b .pre)
-
-after-put-word : (c : tie.After-put-word)
-    → let a = c .before .before .before .before .before .args in
-    Fields (a .out .now) (a .at) (labelLine (a .start) (a .label .now) (a .len)) (c .put-word .last .0) (c .put-word .result) (decimal (a .start) ∷ hex (a .label .now) ∷ decimal (a .len) ∷ [])
-after-put-word c = next-field (at-word (c .before)) (c .put-word .ensures)
-
-after-put-decimal : (c : tie.After-put-decimal)
-    → let a = c .before .before .before .before .before .before .before .before .before .args in
-    Fields (a .out .now) (a .at) (labelLine (a .start) (a .label .now) (a .len)) (c .put-decimal .last .0) (c .put-decimal .result) (hex (a .label .now) ∷ decimal (a .len) ∷ [])
-after-put-decimal c = next-field (after-put-word (c .before .before .before .before)) (c .put-decimal .ensures)
-
-after-put-hex : (c : tie.After-put-hex)
-    → let a = c .before .before .before .before .before .before .before .before .before .before .before .before .before .args in
-    Fields (a .out .now) (a .at) (labelLine (a .start) (a .label .now) (a .len)) (c .put-hex .last .0) (c .put-hex .result) (decimal (a .len) ∷ [])
-after-put-hex c = next-field (after-put-decimal (c .before .before .before .before)) (c .put-hex .ensures)
-
-slice-aggregate-put-word : tie.Need-slice-aggregate-put-word
-slice-aggregate-put-word c = search needs
-
-put-word-requires : tie.Need-put-word-requires
-put-word-requires c κs = next-room (at-word c)
-
-put-decimal-requires : tie.Need-put-decimal-requires
-put-decimal-requires c κs = next-room (after-put-word (c .before .before .before))
-
-put-hex-requires : tie.Need-put-hex-requires
-put-hex-requires c κs = next-room (after-put-decimal (c .before .before .before))
-
-put-decimal-requires-2 : tie.Need-put-decimal-requires-2
-put-decimal-requires-2 c κs = last-room (after-put-hex (c .before .before .before))
-
-same-length : tie.Need-same-length
-same-length c = search needs
-
 returns : tie.Need-returns
-returns c = last-field (after-put-hex (c .before .before .before .before .before .before)) (c .before .before .put-decimal2 .ensures)
+returns c =
+    let len = c .before .before in
+    let label = len .before .before .before .before in
+    let start = label .before .before .before .before in
+    let word = start .before .before .before .before in
+    let b = word .before .before .before .before .before in
+    let a = b .args in
+    let left = next-field (first-field (a .out .now) (a .at) (labelFields (a .start) (a .label .now) (a .len)) (omega arith) (b .pre)) (word .put-word .ensures) in
+    last-field (next-field (next-field left (start .put-decimal .ensures)) (label .put-hex .ensures)) (len .put-decimal2 .ensures)
 
 pub put-label-spec : {M : Type 1} → statement M
 put-label-spec =
     tie.close
     (tie.spec
-    slice-aggregate-put-word
-    put-word-requires
-    put-decimal-requires
-    put-hex-requires
-    put-decimal-requires-2
-    same-length
+    (λ c. search needs)
+    (λ c κs. search needs)
+    (λ c κs. search needs)
+    (λ c κs. search needs)
+    (λ c κs. search needs)
+    (λ c. search needs)
     returns)

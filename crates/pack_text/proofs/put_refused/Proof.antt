@@ -1,53 +1,28 @@
 -- `pack_text::put_refused` meets its contract: one field after the other.
-use mathlib.Core.Path.{refl}
-use mathlib.Core.List.{[], _∷_}
 use borrow.Author.Needs.{needs}
-use Rattle.pack_text.specs.Figures.{decimal}
-use Rattle.pack_text.specs.Text.{refusedWord, refusedLine}
-use Rattle.pack_text.proofs.Fields.{Fields, first-field, next-room, next-field, last-room, last-field}
+use native.Mathlib.Omega.{arith}
+use Rattle.pack_text.specs.Text.{refusedFields}
+use Rattle.pack_text.proofs.Fields.{first-field, next-field, last-field}
 use Rattle.pack_text.proofs.put_refused.Statement.{statement}
 use Rattle.pack_text.proofs.put_refused.Tie as tie
 
--- what is left of the line before its word, and after each field
-at-word : (c : tie.After-put-word-arg2) → let a = c .before .before .before .args in Fields (a .out .now) (a .at) (refusedLine (a .number) (a .place)) (a .out .now) (a .at) (refusedWord ∷ decimal (a .number) ∷ decimal (a .place) ∷ [])
-unfolding refusedLine
-at-word c = let b = c .before .before .before in first-field (refusedWord ∷ decimal (b .args .number) ∷ decimal (b .args .place) ∷ []) refl (b .pre)
-
-after-put-word : (c : tie.After-put-word)
-    → let a = c .before .before .before .before .args in
-    Fields (a .out .now) (a .at) (refusedLine (a .number) (a .place)) (c .put-word .last .0) (c .put-word .result) (decimal (a .number) ∷ decimal (a .place) ∷ [])
-after-put-word c = next-field (at-word (c .before)) (c .put-word .ensures)
-
-after-put-decimal : (c : tie.After-put-decimal)
-    → let a = c .before .before .before .before .before .before .before .before .args in
-    Fields (a .out .now) (a .at) (refusedLine (a .number) (a .place)) (c .put-decimal .last .0) (c .put-decimal .result) (decimal (a .place) ∷ [])
-after-put-decimal c = next-field (after-put-word (c .before .before .before .before)) (c .put-decimal .ensures)
-
-slice-aggregate-put-word : tie.Need-slice-aggregate-put-word
-slice-aggregate-put-word c = search needs
-
-put-word-requires : tie.Need-put-word-requires
-put-word-requires c κs = next-room (at-word c)
-
-put-decimal-requires : tie.Need-put-decimal-requires
-put-decimal-requires c κs = next-room (after-put-word (c .before .before .before))
-
-put-decimal-requires-2 : tie.Need-put-decimal-requires-2
-put-decimal-requires-2 c κs = last-room (after-put-decimal (c .before .before .before))
-
-same-length : tie.Need-same-length
-same-length c = search needs
-
 returns : tie.Need-returns
-returns c = last-field (after-put-decimal (c .before .before .before .before .before .before)) (c .before .before .put-decimal2 .ensures)
+returns c =
+    let place = c .before .before in
+    let number = place .before .before .before .before in
+    let word = number .before .before .before .before in
+    let b = word .before .before .before .before in
+    let a = b .args in
+    let left = next-field (first-field (a .out .now) (a .at) (refusedFields (a .number) (a .place)) (omega arith) (b .pre)) (word .put-word .ensures) in
+    last-field (next-field left (number .put-decimal .ensures)) (place .put-decimal2 .ensures)
 
 pub put-refused-spec : {M : Type 1} → statement M
 put-refused-spec =
     tie.close
     (tie.spec
-    slice-aggregate-put-word
-    put-word-requires
-    put-decimal-requires
-    put-decimal-requires-2
-    same-length
+    (λ c. search needs)
+    (λ c κs. search needs)
+    (λ c κs. search needs)
+    (λ c κs. search needs)
+    (λ c. search needs)
     returns)

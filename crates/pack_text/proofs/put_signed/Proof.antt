@@ -1,74 +1,48 @@
 -- `pack_text::put_signed` meets its contract: a number below the middle as it is, another as a minus and what it lacks to 65,536.
-use Prim.Native.Nat.{ℕ, _+_, _-_, _≤_, _<_}
-use mathlib.Core.Path.{_≡_, sym, ap, subst, _∙_}
-use mathlib.Core.List.{List, [], _∷_, _++_}
+use Prim.Native.Nat.{_+_, _-_, _<_}
+use mathlib.Core.Path.{_≡_, ap, _∙_}
+use mathlib.Core.List.{[], _∷_, _++_}
 use borrow.Author.Needs.{needs}
 use native.Mathlib.Omega.{arith}
 use lib.ListN.{length, length-set}
-use Rattle.runs.proofs.Over.{wrote-as, wrote-byte, wrote-then}
+use Rattle.runs.proofs.Over.{wrote-byte, wrote-then}
 use Rattle.numbers.specs.Big.{signed}
 use Rattle.pack_text.specs.Figures.{decimal, integer}
 use Rattle.pack_text.proofs.Figures.{signed-low, signed-high}
+use Rattle.pack_text.proofs.Fields.{field-put}
 use Rattle.pack_text.proofs.put_signed.Statement.{statement}
 use Rattle.pack_text.proofs.put_signed.Tie as tie
 
--- what is written, with the byte after it
-low : (c : tie.Then1) → let a = c .before .before .args in integer (signed (a .n)) ++ (a .end ∷ []) ≡ decimal (a .n) ++ (a .end ∷ [])
-low c = let a = c .before .before .args in ap (λ (l : List ℕ). l ++ (a .end ∷ [])) (signed-low (a .n) (c .if1 .taken))
+-- what the number is as text, by the test
+low : (c : tie.Then1) → let n = c .before .before .args .n in integer (signed n) ≡ decimal n
+low c = signed-low (c .before .before .args .n) (c .if1 .taken)
 
-high : (c : tie.Else1) → let a = c .before .before .args in integer (signed (a .n)) ++ (a .end ∷ []) ≡ 45 ∷ (decimal (65536 - a .n) ++ (a .end ∷ []))
-high c =
-    let a = c .before .before .args in
-    ap (λ (l : List ℕ). l ++ (a .end ∷ [])) (signed-high (a .n) (c .if1 .left) (c .before .before .fits .n .fits))
+high : (c : tie.Else1) → let n = c .before .before .args .n in integer (signed n) ≡ 45 ∷ decimal (65536 - n)
+high c = let b = c .before .before in signed-high (b .args .n) (c .if1 .left) (b .fits .n .fits)
 
-room : (c : tie.Else1)
-    → let a = c .before .before .args in a .at + 1 + length (decimal (65536 - a .n) ++ (a .end ∷ [])) ≤ length (a .out .now)
+room : (c : tie.Else1) → let a = c .before .before .args in a .at + 1 + length (decimal (65536 - a .n)) < length (a .out .now)
 room c = omega (arith, c .before .before .pre, ap length (high c))
-
-put-decimal-requires : tie.Need-put-decimal-requires
-put-decimal-requires c κs =
-    let b = c .before .before .before in
-    subst (λ (l : List ℕ). b .args .at + length l ≤ length (b .args .out .now)) (low (c .before)) (b .pre)
-
-same-length : tie.Need-same-length
-same-length c = search needs
-
-returns : tie.Need-returns
-returns c = wrote-as (sym (low (c .before .before .before .before))) (c .before .before .put-decimal .ensures)
-
-slice-write-out : tie.Need-slice-write-out
-slice-write-out c = omega (arith, room c)
-
-add-put-decimal : tie.Need-add-put-decimal
-add-put-decimal c = search needs
-
-sub-put-decimal : tie.Need-sub-put-decimal
-sub-put-decimal c = search needs
-
-put-decimal-requires-2 : tie.Need-put-decimal-requires-2
-put-decimal-requires-2 c κs = simp length-set (room (c .before))
-
-same-length-2 : tie.Need-same-length-2
-same-length-2 c = c .before .before .put-decimal2 .kept .0 ∙ simp length-set
 
 returns-2 : tie.Need-returns-2
 returns-2 c =
     let e = c .before .before .before .before in
     let a = e .before .before .args in
-    let more = decimal (65536 - a .n) ++ (a .end ∷ []) in
+    let digits = decimal (65536 - a .n) in
     let h : a .at < length (a .out .now) = omega (arith, room e) in
-    wrote-as (sym (high e)) (wrote-then (45 ∷ []) more (omega arith) (wrote-byte (a .out .now) (a .at) 45 h) (c .before .before .put-decimal2 .ensures))
+    rw (high e)
+    (field-put (45 ∷ digits) (a .end)
+    (wrote-then (45 ∷ []) (digits ++ (a .end ∷ [])) (omega arith) (wrote-byte (a .out .now) (a .at) 45 h) (c .before .before .put-decimal2 .ensures .wrote)))
 
 pub put-signed-spec : {M : Type 1} → statement M
 put-signed-spec =
     tie.close
     (tie.spec
-    put-decimal-requires
-    same-length
-    returns
-    slice-write-out
-    add-put-decimal
-    sub-put-decimal
-    put-decimal-requires-2
-    same-length-2
+    (λ c κs. omega (arith, c .before .before .before .pre, ap length (low (c .before))))
+    (λ c. search needs)
+    (λ c. rw (low (c .before .before .before .before)) (c .before .before .put-decimal .ensures))
+    (λ c. omega (arith, room c))
+    (λ c. search needs)
+    (λ c. search needs)
+    (λ c κs. simp length-set (room (c .before)))
+    (λ c. c .before .before .put-decimal2 .kept .0 ∙ simp length-set)
     returns-2)
