@@ -17,16 +17,16 @@ use Rattle.refusals.specs.Outcomes.{Outcome, fine, refused, andThen}
 use Rattle.refusals.specs.declared.Refusal.{Refusal}
 use Rattle.refusals.specs.declared.Refusal.the-variants as R
 use Rattle.pmd.specs.declared.Piece.{Piece}
-use Rattle.pmd.specs.Table.{widthOf, valueOf, mayHold}
+use Rattle.pmd.specs.Table.{widthOf, typed, mayHold}
 use Rattle.pmd.specs.Records.{goesOn, onward, width, takes, after, closed, opened}
 use Rattle.refusals.specs.Lent.{prepend}
 use Rattle.pmd.specs.Reading.{padding, readFrom}
 use Rattle.pmd.proofs.Fields.{width-some}
 use Rattle.refusals.proofs.Lent.{prepend-none, prepend-prepend, prepend-fine}
-use Rattle.pmd.specs.declared.Row.{Row}
-use Rattle.pmd.specs.Rows.{leftOf, Walkable}
+use Rattle.pmd.specs.declared.Shape.{Shape}
+use Rattle.pmd.specs.Shapes.{leftOf, Walkable}
 use Rattle.pmd.proofs.Walk.{blank, left-next}
-use Rattle.pmd_read.specs.ByRow.{readRow, Roomy}
+use Rattle.pmd_read.specs.ByShape.{readShape, Roomy}
 
 -- how many bits are left
 length-left : (s : List ℕ) (at : ℕ) → length (drop at (bits s)) ≡ 8 * length s - at
@@ -47,11 +47,11 @@ module _ (steps : ℕ) (again : List Piece) (p : Piece) (left : List Piece) (s :
   unfolding readFrom closed opened width
   read-short h = simp (length-left s at, lt-ltb _ _ h)
 
-  read-bad : w ≤ 8 * length s - at → mayHold (valueOf (p .0) v) ≡ false → here ≡ refused R.Field at
+  read-bad : w ≤ 8 * length s - at → mayHold (typed (p .0) v) ≡ false → here ≡ refused R.Field at
   unfolding readFrom closed opened width takes fieldAt
   read-bad h e = simp (length-left s at, le-ltb _ _ h, lt-ltb _ _ (field-lt s at w), e)
 
-  read-on : w ≤ 8 * length s - at → mayHold (valueOf (p .0) v) ≡ true
+  read-on : w ≤ 8 * length s - at → mayHold (typed (p .0) v) ≡ true
       → here ≡ prepend (v ∷ []) (readFrom steps again (onward p left (goesOn (p .2) v)) (drop (at + w) (bits s)) (at + w))
   unfolding readFrom closed opened width takes after fieldAt
   read-on h e = simp (length-left s at, le-ltb _ _ h, lt-ltb _ _ (field-lt s at w), e, drop-drop)
@@ -74,24 +74,24 @@ module _ (steps : ℕ) (again : List Piece) (s : List ℕ) (at : ℕ) where
       (simp (length-left s at, le-ltb _ _ h))
 
 -- the numbers xs, n of them, were found before bit `at`, and this is left of the record
-pub record Kept (row : Row) (s xs : List ℕ) (at n : ℕ) (left : List Piece) : Type 0 where
+pub record Kept (shape : Shape) (s xs : List ℕ) (at n : ℕ) (left : List Piece) : Type 0 where
   pub steps : ℕ
   pub long : length xs ≡ n
   pub few : n ≤ at
   pub inside : at ≤ 8 * length s
   pub enough : 8 * length s ≤ at + steps
-  pub same : prepend xs (readFrom (suc steps) (leftOf row (row .again)) left (drop at (bits s)) at) ≡ readRow row s
+  pub same : prepend xs (readFrom (suc steps) (leftOf shape (shape .again)) left (drop at (bits s)) at) ≡ readShape shape s
 
-pub kept-begins : (row : Row) (s : List ℕ) → Kept row s [] 0 0 (leftOf row 0)
-kept-begins row s = record
+pub kept-begins : (shape : Shape) (s : List ℕ) → Kept shape s [] 0 0 (leftOf shape 0)
+kept-begins shape s = record
     { steps = 8 * length s; long = refl; few = omega arith; inside = omega arith; enough = omega arith; same = prepend-none _ }
 
 -- at a piece, of which the field has w bits
-module _ {row : Row} {s xs : List ℕ} {at n : ℕ} {p : Piece} {left : List Piece} (k : Kept row s xs at n (p ∷ left)) (w : ℕ) (e : w ≡ widthOf (p .0)) where
-  pub kept-short : 8 * length s - at < w → readRow row s ≡ refused R.Bits at
+module _ {shape : Shape} {s xs : List ℕ} {at n : ℕ} {p : Piece} {left : List Piece} (k : Kept shape s xs at n (p ∷ left)) (w : ℕ) (e : w ≡ widthOf (p .0)) where
+  pub kept-short : 8 * length s - at < w → readShape shape s ≡ refused R.Bits at
   unfolding andThen
   kept-short h =
-      sym (k .same) ∙ ap (prepend xs) (read-short (k .steps) (leftOf row (row .again)) p left s at (subst (λ (m : ℕ). 8 * length s - at < m) e h))
+      sym (k .same) ∙ ap (prepend xs) (read-short (k .steps) (leftOf shape (shape .again)) p left s at (subst (λ (m : ℕ). 8 * length s - at < m) e h))
 
   -- and holds v
   module _ (h : w ≤ 8 * length s - at) (v : ℕ) (ev : v ≡ fieldAt s at w) where
@@ -101,17 +101,17 @@ module _ {row : Row} {s xs : List ℕ} {at n : ℕ} {p : Piece} {left : List Pie
     value : v ≡ fieldAt s at (widthOf (p .0))
     value = ev ∙ ap (fieldAt s at) e
 
-    pub kept-bad : mayHold (valueOf (p .0) v) ≡ false → readRow row s ≡ refused R.Field at
+    pub kept-bad : mayHold (typed (p .0) v) ≡ false → readShape shape s ≡ refused R.Field at
     unfolding andThen
     kept-bad b =
         sym (k .same)
-        ∙ ap (prepend xs) (read-bad (k .steps) (leftOf row (row .again)) p left s at there (ap (λ (x : ℕ). mayHold (valueOf (p .0) x)) (sym value) ∙ b))
+        ∙ ap (prepend xs) (read-bad (k .steps) (leftOf shape (shape .again)) p left s at there (ap (λ (x : ℕ). mayHold (typed (p .0) x)) (sym value) ∙ b))
 
-    pub kept-on : mayHold (valueOf (p .0) v) ≡ true → {more : Bool} → more ≡ goesOn (p .2) v → Kept row s (xs ++ (v ∷ [])) (at + w) (n + 1) (onward p left more)
+    pub kept-on : mayHold (typed (p .0) v) ≡ true → {more : Bool} → more ≡ goesOn (p .2) v → Kept shape s (xs ++ (v ∷ [])) (at + w) (n + 1) (onward p left more)
     kept-on b {more} em =
         let some : 1 ≤ w = subst (λ (m : ℕ). 1 ≤ m) (sym e) (width-some (p .0) .0) in
-        let again = leftOf row (row .again) in
-        let on = read-on (k .steps) again p left s at there (ap (λ (x : ℕ). mayHold (valueOf (p .0) x)) (sym value) ∙ b) in
+        let again = leftOf shape (shape .again) in
+        let on = read-on (k .steps) again p left s at there (ap (λ (x : ℕ). mayHold (typed (p .0) x)) (sym value) ∙ b) in
         record {
           steps = k .steps - 1;
           long = length-append xs (v ∷ []) ∙ ap (λ (m : ℕ). m + 1) (k .long);
@@ -127,22 +127,22 @@ module _ {row : Row} {s xs : List ℕ} {at n : ℕ} {p : Piece} {left : List Pie
         }
 
 -- where a record is closed
-module _ {row : Row} {s xs : List ℕ} {at n : ℕ} (k : Kept row s xs at n []) where
+module _ {shape : Shape} {s xs : List ℕ} {at n : ℕ} (k : Kept shape s xs at n []) where
   module _ (h : 8 * length s - at < 8) (v : ℕ) (ev : v ≡ fieldAt s at (8 * length s - at)) where
-    closing : readRow row s ≡ prepend xs (cond (eqb v 0) (fine []) (refused R.Pad at))
+    closing : readShape shape s ≡ prepend xs (cond (eqb v 0) (fine []) (refused R.Pad at))
     closing =
-        sym (k .same) ∙ ap (prepend xs) (read-over (k .steps) (leftOf row (row .again)) s at h)
+        sym (k .same) ∙ ap (prepend xs) (read-over (k .steps) (leftOf shape (shape .again)) s at h)
         ∙ ap (λ (x : ℕ). prepend xs (cond (eqb x 0) (fine []) (refused R.Pad at))) (sym ev)
 
-    pub kept-ends : v ≡ 0 → readRow row s ≡ fine xs
+    pub kept-ends : v ≡ 0 → readShape shape s ≡ fine xs
     unfolding andThen
     kept-ends z = closing ∙ simp (eq-eqb v 0 z, append-nil)
 
-    pub kept-pad : (v ≡ 0 → ⊥) → readRow row s ≡ refused R.Pad at
+    pub kept-pad : (v ≡ 0 → ⊥) → readShape shape s ≡ refused R.Pad at
     unfolding andThen
     kept-pad z = closing ∙ simp (ne-eqb v 0 z)
 
-  pub kept-again : Walkable row → 8 ≤ 8 * length s - at → Kept row s xs at n (leftOf row (row .again))
+  pub kept-again : Walkable shape → 8 ≤ 8 * length s - at → Kept shape s xs at n (leftOf shape (shape .again))
   kept-again walkable h = record {
     steps = k .steps;
     long = k .long;
@@ -151,34 +151,34 @@ module _ {row : Row} {s xs : List ℕ} {at n : ℕ} (k : Kept row s xs at n []) 
     enough = k .enough;
     same =
         ap (prepend xs)
-        (sym (read-again (k .steps) (leftOf row (row .again)) s at (getD (row .pieces) (row .again) blank) (leftOf row (row .again + 1)) (left-next walkable (row .again) (walkable .begins)) h))
+        (sym (read-again (k .steps) (leftOf shape (shape .again)) s at (getD (shape .pieces) (shape .again) blank) (leftOf shape (shape .again + 1)) (left-next walkable (shape .again) (walkable .begins)) h))
         ∙ k .same;
   }
 
 -- what a loop knows: some numbers were found, and this of them
-pub record Found (P : List ℕ → Type 0) (row : Row) (s : List ℕ) (at n : ℕ) (left : List Piece) : Type 0 where
+pub record Found (P : List ℕ → Type 0) (shape : Shape) (s : List ℕ) (at n : ℕ) (left : List Piece) : Type 0 where
   pub xs : List ℕ
   pub also : P xs
-  pub kept : Kept row s xs at n left
+  pub kept : Kept shape s xs at n left
 
 -- a value whose reading has room is not refused: its next field is there and is good, and the number has room
 never : {A : Type 0} {o : Outcome (List ℕ)} {room : ℕ} {why : Refusal} {place : ℕ} → Roomy o room → o ≡ refused why place → A
 never {o = o} {why = why} {place} r e = let q : refused why place ≡ fine (r .list) = sym e ∙ r .is in absurd-eq (cc)
 
-module _ {row : Row} {s xs : List ℕ} {at n room : ℕ} (roomy : Roomy (readRow row s) room) where
-  module _ {p : Piece} {left : List Piece} (k : Kept row s xs at n (p ∷ left)) (w : ℕ) (e : w ≡ widthOf (p .0)) where
+module _ {shape : Shape} {s xs : List ℕ} {at n room : ℕ} (roomy : Roomy (readShape shape s) room) where
+  module _ {p : Piece} {left : List Piece} (k : Kept shape s xs at n (p ∷ left)) (w : ℕ) (e : w ≡ widthOf (p .0)) where
     pub roomy-there : w ≤ 8 * length s - at
     roomy-there = split (ltb (8 * length s - at) w) (λ l. never roomy (kept-short k w e (ltb-true _ _ l))) (λ l. ltb-false _ _ l)
 
-    pub roomy-good : (v : ℕ) → v ≡ fieldAt s at w → mayHold (valueOf (p .0) v) ≡ true
-    roomy-good v ev = split (mayHold (valueOf (p .0) v)) (λ b. b) (λ b. never roomy (kept-bad k w e roomy-there v ev b))
+    pub roomy-good : (v : ℕ) → v ≡ fieldAt s at w → mayHold (typed (p .0) v) ≡ true
+    roomy-good v ev = split (mayHold (typed (p .0) v)) (λ b. b) (λ b. never roomy (kept-bad k w e roomy-there v ev b))
 
-  pub roomy-for : {left : List Piece} → Kept row s xs at n left → n ≤ room
+  pub roomy-for : {left : List Piece} → Kept shape s xs at n left → n ≤ room
   roomy-for k =
       let o = prepend-fine xs _ (roomy .list) (k .same ∙ roomy .is) in
       omega (arith, k .long, ap length (o .2), length-append xs (o .0), roomy .fits)
 
-  pub roomy-ends : (k : Kept row s xs at n []) → 8 * length s - at < 8 → readRow row s ≡ fine xs
+  pub roomy-ends : (k : Kept shape s xs at n []) → 8 * length s - at < 8 → readShape shape s ≡ fine xs
   roomy-ends k h =
       let v = fieldAt s at (8 * length s - at) in
       split (eqb v 0) (λ z. kept-ends k h v refl (eqb-true _ _ z)) (λ z. never roomy (kept-pad k h v refl (eqb-false _ _ z)))

@@ -21,10 +21,10 @@ use Rattle.pmd.specs.Records.{goesOn, onward, width, takes, after, closed, open
 use Rattle.refusals.specs.Lent.{prepend}
 use Rattle.pmd.specs.Writing.{writeFrom}
 use Rattle.refusals.proofs.Lent.{prepend-none, prepend-prepend, prepend-fine}
-use Rattle.pmd.specs.declared.Row.{Row}
-use Rattle.pmd.specs.Rows.{leftOf, Walkable}
+use Rattle.pmd.specs.declared.Shape.{Shape}
+use Rattle.pmd.specs.Shapes.{leftOf, Walkable}
 use Rattle.pmd.proofs.Walk.{blank, left-next}
-use Rattle.pmd_write.specs.ByRow.{writeRow, fits, weight, Roomy}
+use Rattle.pmd_write.specs.ByShape.{writeShape, fits, weight, Roomy}
 
 -- the writer at a piece: no number, a number that is not taken, a number that is
 module _ (again : List Piece) (p : Piece) (left : List Piece) (n : ℕ) where
@@ -53,18 +53,18 @@ write-again again p left v vs n e =
     subst (λ (g : List Piece). writeFrom g g (v ∷ vs) n ≡ writeFrom g [] (v ∷ vs) n) (sym e) refl
 
 -- the bits bs are those of the first n numbers, and this is left of the record
-pub record Laid (row : Row) (vs bs : List ℕ) (n : ℕ) (left : List Piece) : Type 0 where
+pub record Laid (shape : Shape) (vs bs : List ℕ) (n : ℕ) (left : List Piece) : Type 0 where
   pub inside : n ≤ length vs
-  pub same : prepend bs (writeFrom (leftOf row (row .again)) left (drop n vs) n) ≡ writeRow row vs
+  pub same : prepend bs (writeFrom (leftOf shape (shape .again)) left (drop n vs) n) ≡ writeShape shape vs
 
-pub laid-begins : (row : Row) (vs : List ℕ) → Laid row vs [] 0 (leftOf row 0)
-laid-begins row vs = record { inside = omega arith; same = prepend-none _ }
+pub laid-begins : (shape : Shape) (vs : List ℕ) → Laid shape vs [] 0 (leftOf shape 0)
+laid-begins shape vs = record { inside = omega arith; same = prepend-none _ }
 
-module _ {row : Row} {vs bs : List ℕ} {n : ℕ} {p : Piece} {left : List Piece} (k : Laid row vs bs n (p ∷ left)) where
+module _ {shape : Shape} {vs bs : List ℕ} {n : ℕ} {p : Piece} {left : List Piece} (k : Laid shape vs bs n (p ∷ left)) where
   again : List Piece
-  again = leftOf row (row .again)
+  again = leftOf shape (shape .again)
 
-  pub laid-short : length vs ≤ n → writeRow row vs ≡ refused R.Bits n
+  pub laid-short : length vs ≤ n → writeShape shape vs ≡ refused R.Bits n
   unfolding andThen again
   laid-short h =
       sym (k .same) ∙ ap (λ (l : List ℕ). prepend bs (writeFrom again (p ∷ left) l n)) (drop-of-length-le vs {i = n} h) ∙ ap (prepend bs) (write-short again p left n)
@@ -74,13 +74,13 @@ module _ {row : Row} {vs bs : List ℕ} {n : ℕ} {p : Piece} {left : List Piece
     there : drop n vs ≡ v ∷ drop (n + 1) vs
     there = here vs n h ∙ ap (λ (x : ℕ). x ∷ drop (n + 1) vs) (sym e)
 
-    pub laid-bad : fits (p .0) v ≡ false → writeRow row vs ≡ refused R.Field n
+    pub laid-bad : fits (p .0) v ≡ false → writeShape shape vs ≡ refused R.Field n
     unfolding andThen again
     laid-bad b =
         sym (k .same) ∙ ap (λ (l : List ℕ). prepend bs (writeFrom again (p ∷ left) l n)) there
         ∙ ap (prepend bs) (write-bad again p left n v (drop (n + 1) vs) b)
 
-    pub laid-on : (w : ℕ) → w ≡ widthOf (p .0) → fits (p .0) v ≡ true → {more : Bool} → more ≡ goesOn (p .2) v → Laid row vs (bs ++ digits 2 w v) (n + 1) (onward p left more)
+    pub laid-on : (w : ℕ) → w ≡ widthOf (p .0) → fits (p .0) v ≡ true → {more : Bool} → more ≡ goesOn (p .2) v → Laid shape vs (bs ++ digits 2 w v) (n + 1) (onward p left more)
     unfolding again
     laid-on w ew b {more} em = record {
       inside = omega arith;
@@ -91,31 +91,31 @@ module _ {row : Row} {vs bs : List ℕ} {n : ℕ} {p : Piece} {left : List Piece
           ∙ k .same;
     }
 
-module _ {row : Row} {vs bs : List ℕ} {n : ℕ} (k : Laid row vs bs n []) where
-  pub laid-ends : length vs ≤ n → writeRow row vs ≡ fine bs
+module _ {shape : Shape} {vs bs : List ℕ} {n : ℕ} (k : Laid shape vs bs n []) where
+  pub laid-ends : length vs ≤ n → writeShape shape vs ≡ fine bs
   unfolding andThen
   laid-ends h =
-      sym (k .same) ∙ ap (λ (l : List ℕ). prepend bs (writeFrom (leftOf row (row .again)) [] l n)) (drop-of-length-le vs {i = n} h)
-      ∙ ap (prepend bs) (write-over (leftOf row (row .again)) n) ∙ ap fine (append-nil bs)
+      sym (k .same) ∙ ap (λ (l : List ℕ). prepend bs (writeFrom (leftOf shape (shape .again)) [] l n)) (drop-of-length-le vs {i = n} h)
+      ∙ ap (prepend bs) (write-over (leftOf shape (shape .again)) n) ∙ ap fine (append-nil bs)
 
-  pub laid-again : Walkable row → n < length vs → Laid row vs bs n (leftOf row (row .again))
+  pub laid-again : Walkable shape → n < length vs → Laid shape vs bs n (leftOf shape (shape .again))
   laid-again walkable h =
-      let g = leftOf row (row .again) in
+      let g = leftOf shape (shape .again) in
       let l = here vs n h in
       record {
         inside = k .inside;
         same =
             ap (λ (l : List ℕ). prepend bs (writeFrom g g l n)) l
             ∙ ap (prepend bs)
-            (write-again g (getD (row .pieces) (row .again) blank) (leftOf row (row .again + 1)) (getD vs n 0) (drop (n + 1) vs) n (left-next walkable (row .again) (walkable .begins)))
+            (write-again g (getD (shape .pieces) (shape .again) blank) (leftOf shape (shape .again + 1)) (getD vs n 0) (drop (n + 1) vs) n (left-next walkable (shape .again) (walkable .begins)))
             ∙ sym (ap (λ (l : List ℕ). prepend bs (writeFrom g [] l n)) l) ∙ k .same;
       }
 
 -- what a loop knows: some bits were laid, and this of them
-pub record Run (P : List ℕ → Type 0) (row : Row) (vs : List ℕ) (n : ℕ) (left : List Piece) : Type 0 where
+pub record Run (P : List ℕ → Type 0) (shape : Shape) (vs : List ℕ) (n : ℕ) (left : List Piece) : Type 0 where
   pub bs : List ℕ
   pub also : P bs
-  pub laid : Laid row vs bs n left
+  pub laid : Laid shape vs bs n left
 
 -- what a loop that weighs knows of the bits: their weight, and that no number has more than 15
 pub record Weighs (vs : List ℕ) (total n : ℕ) (bs : List ℕ) : Type 0 where
@@ -153,15 +153,15 @@ fits-lt p v e = split (ltb v (2 ^ widthOf (p .0))) (λ l. ltb-true _ _ l) (λ l.
 never : {A : Type 0} {o : Outcome (List ℕ)} {room : ℕ} {why : Refusal} {place : ℕ} → Roomy o room → o ≡ refused why place → A
 never {o = o} {why = why} {place} r e = let q : refused why place ≡ fine (r .run) = sym e ∙ r .is in absurd-eq (cc)
 
-module _ {row : Row} {vs bs : List ℕ} {n room : ℕ} (roomy : Roomy (writeRow row vs) room) where
-  module _ {p : Piece} {left : List Piece} (k : Laid row vs bs n (p ∷ left)) where
+module _ {shape : Shape} {vs bs : List ℕ} {n room : ℕ} (roomy : Roomy (writeShape shape vs) room) where
+  module _ {p : Piece} {left : List Piece} (k : Laid shape vs bs n (p ∷ left)) where
     pub roomy-there : n < length vs
     roomy-there = split (leb (length vs) n) (λ l. never roomy (laid-short k (leb-true _ _ l))) (λ l. leb-false _ _ l)
 
     pub roomy-good : fits (p .0) (getD vs n 0) ≡ true
     roomy-good = split (fits (p .0) (getD vs n 0)) (λ b. b) (λ b. never roomy (laid-bad k roomy-there _ refl b))
 
-  pub roomy-for : {left : List Piece} → Laid row vs bs n left → length bs ≤ 8 * room
+  pub roomy-for : {left : List Piece} → Laid shape vs bs n left → length bs ≤ 8 * room
   roomy-for k =
       let o = prepend-fine bs _ (roomy .run) (k .same ∙ roomy .is) in
       omega (arith, ap length (o .2), length-append bs (o .0), roomy .fit)

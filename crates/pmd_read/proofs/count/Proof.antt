@@ -8,12 +8,12 @@ use borrow.Author.Tests.{not-true, not-false}
 use denote.Ref.{now}
 use lib.ListN.{length, getD}
 use Rattle.pmd.specs.declared.Piece.{Piece}
-use Rattle.pmd.specs.Table.{widthOf, valueOf, mayHold}
+use Rattle.pmd.specs.Table.{widthOf, typed, mayHold}
 use Rattle.pmd.proofs.Fields.{width-some}
 use Rattle.refusals.proofs.Lent.{answers, counts}
 use Rattle.refusals.specs.declared.Answer.the-variants as A
-use Rattle.pmd.specs.declared.Row.{Row}
-use Rattle.pmd.specs.Rows.{leftOf}
+use Rattle.pmd.specs.declared.Shape.{Shape}
+use Rattle.pmd.specs.Shapes.{leftOf}
 use Rattle.pmd.proofs.Walk.{Records, Pieces, Fields, blank, wide-at, pieces-begin, fields-begin, fields-open, fields-on, pieces-on, pieces-over}
 use Rattle.pmd_read.proofs.Kept.{Found, kept-begins, kept-short, kept-bad, kept-on, kept-ends, kept-pad, kept-again}
 use Rattle.pmd_read.proofs.count.Statement.{statement}
@@ -24,36 +24,36 @@ abbrev Any : List ℕ → Type 0
 Any xs = xs ≡ xs
 
 abbrev Inv-loop3 : tie.InvT-loop3
-Inv-loop3 s row at₀ n₀ i piece f w more₀ at n more = Fields (Found Any row s at n) row i piece at₀ at more
+Inv-loop3 s shape at₀ n₀ i piece f w more₀ at n more = Fields (Found Any shape s at n) shape i piece at₀ at more
 
 abbrev μ-loop3 : tie.MeasureT-loop3
-μ-loop3 s row at₀ n₀ i piece f w more₀ at n more = 8 * length s - at
+μ-loop3 s shape at₀ n₀ i piece f w more₀ at n more = 8 * length s - at
 
 abbrev Inv-loop2 : tie.InvT-loop2
-Inv-loop2 s row at₀ n₀ i₀ at n i = Pieces (Found Any row s at n) row at₀ i₀ at i
+Inv-loop2 s shape at₀ n₀ i₀ at n i = Pieces (Found Any shape s at n) shape at₀ i₀ at i
 
 abbrev μ-loop2 : tie.MeasureT-loop2
-μ-loop2 s row at₀ n₀ i₀ at n i = row .size - i
+μ-loop2 s shape at₀ n₀ i₀ at n i = shape .size - i
 
 abbrev Inv-loop : tie.InvT-loop
-Inv-loop s row at₀ n₀ i₀ at n i = Records (Found Any row s at n) row i
+Inv-loop s shape at₀ n₀ i₀ at n i = Records (Found Any shape s at n) shape i
 
 abbrev μ-loop : tie.MeasureT-loop
-μ-loop s row at₀ n₀ i₀ at n i = 8 * length s - at
+μ-loop s shape at₀ n₀ i₀ at n i = 8 * length s - at
 
 -- what a turn over the pieces looks at
 module _ (c : tie.After-struct-known Inv-loop3 μ-loop3 Inv-loop2 μ-loop2 Inv-loop μ-loop) where
-  abbrev row : Row
-  row = c .before .before .before .before .before .before .args .t1
+  abbrev shape : Shape
+  shape = c .before .before .before .before .before .before .args .t1
 
   abbrev value : List ℕ
   value = now (c .before .before .before .before .before .before .args .s)
 
   abbrev piece : Piece
-  piece = getD (row .pieces) (c .before .before .before .loop2 .i) blank
+  piece = getD (shape .pieces) (c .before .before .before .loop2 .i) blank
 
   abbrev left : List Piece
-  left = leftOf row (c .before .before .before .loop2 .i + 1)
+  left = leftOf shape (c .before .before .before .loop2 .i + 1)
 
   abbrev w : ℕ
   w = piece .1
@@ -65,7 +65,7 @@ module _ (c : tie.After-struct-known Inv-loop3 μ-loop3 Inv-loop2 μ-loop2 Inv-l
   narrow = subst (λ (m : ℕ). (1 ≤ m) × (m ≤ 15)) (sym wide) (width-some (piece .0))
 
 -- what is known where a field is due
-due : (c : tie.In-loop3 Inv-loop3 μ-loop3 Inv-loop2 μ-loop2 Inv-loop μ-loop) → Found Any (row (c .before .before)) (value (c .before .before)) (c .before .loop3 .at) (c .before .loop3 .n) (piece (c .before .before) ∷ left (c .before .before))
+due : (c : tie.In-loop3 Inv-loop3 μ-loop3 Inv-loop2 μ-loop2 Inv-loop μ-loop) → Found Any (shape (c .before .before)) (value (c .before .before)) (c .before .loop3 .at) (c .before .loop3 .n) (piece (c .before .before) ∷ left (c .before .before))
 due c = fields-open (c .before .loop3 .inv) (c .loop3-test .taken)
 
 loop-holds : tie.Need-loop-holds Inv-loop3 μ-loop3 Inv-loop2 μ-loop2 Inv-loop μ-loop
@@ -111,7 +111,7 @@ refused-requires-2 : tie.Need-refused-requires-2 Inv-loop3 μ-loop3 Inv-loop2 μ
 refused-requires-2 c κs = search needs
 
 -- what was judged is the number that was fetched
-judged : (c : tie.After-holds Inv-loop3 μ-loop3 Inv-loop2 μ-loop2 Inv-loop μ-loop) → mayHold (valueOf (piece (c .before .before .before .before .before .before) .0) (c .before .before .fetch .result)) ≡ c .holds .result
+judged : (c : tie.After-holds Inv-loop3 μ-loop3 Inv-loop2 μ-loop2 Inv-loop μ-loop) → mayHold (typed (piece (c .before .before .before .before .before .before) .0) (c .before .before .fetch .result)) ≡ c .holds .result
 judged c = sym (c .holds .ensures ∙ ap mayHold (c .before .value-of .ensures))
 
 returns-2 : tie.Need-returns-2 Inv-loop3 μ-loop3 Inv-loop2 μ-loop2 Inv-loop μ-loop

@@ -13,39 +13,39 @@ use Rattle.bits.specs.Bits.{fieldAt}
 use Rattle.pmd.specs.Table.{widthOf, asNumber}
 use Rattle.pmd.specs.Records.{goesOn, onward}
 use Rattle.pmd.proofs.Fields.{width-some, number-value}
-use Rattle.pmd.specs.declared.Row.{Row}
-use Rattle.pmd.specs.Rows.{leftOf}
+use Rattle.pmd.specs.declared.Shape.{Shape}
+use Rattle.pmd.specs.Shapes.{leftOf}
 use Rattle.pmd.proofs.Walk.{Records, Pieces, Fields, blank, wide-at, pieces-begin, fields-begin, fields-open, fields-on, pieces-on, pieces-over}
 use Rattle.pmd.proofs.Frame.{Frame, frame-begins, frame-then, frame-set}
-use Rattle.pmd_read.specs.ByRow.{readRow, Roomy}
+use Rattle.pmd_read.specs.ByShape.{readShape, Roomy}
 use Rattle.pmd_read.proofs.Kept.{Kept, Found, kept-begins, kept-on, kept-again, roomy-there, roomy-good, roomy-for, roomy-ends}
 use Rattle.pmd_read.proofs.Stored.{Stored, stored-on, stored-ends}
 use Rattle.pmd_read.proofs.fill.Statement.{statement}
 use Rattle.pmd_read.proofs.fill.Tie as tie
 
 abbrev Inv-loop3 : tie.InvT-loop3
-Inv-loop3 s numbers₀ row at₀ n₀ i piece f w more₀ numbers at n more =
-    Fields (Found (Stored numbers n) row s at n) row i piece at₀ at more × Frame numbers₀ n₀ numbers n
+Inv-loop3 s numbers₀ shape at₀ n₀ i piece f w more₀ numbers at n more =
+    Fields (Found (Stored numbers n) shape s at n) shape i piece at₀ at more × Frame numbers₀ n₀ numbers n
 
 abbrev μ-loop3 : tie.MeasureT-loop3
-μ-loop3 s numbers₀ row at₀ n₀ i piece f w more₀ numbers at n more = 8 * length s - at
+μ-loop3 s numbers₀ shape at₀ n₀ i piece f w more₀ numbers at n more = 8 * length s - at
 
 abbrev Inv-loop2 : tie.InvT-loop2
-Inv-loop2 s numbers₀ row at₀ n₀ i₀ numbers at n i = Pieces (Found (Stored numbers n) row s at n) row at₀ i₀ at i × Frame numbers₀ n₀ numbers n
+Inv-loop2 s numbers₀ shape at₀ n₀ i₀ numbers at n i = Pieces (Found (Stored numbers n) shape s at n) shape at₀ i₀ at i × Frame numbers₀ n₀ numbers n
 
 abbrev μ-loop2 : tie.MeasureT-loop2
-μ-loop2 s numbers₀ row at₀ n₀ i₀ numbers at n i = row .size - i
+μ-loop2 s numbers₀ shape at₀ n₀ i₀ numbers at n i = shape .size - i
 
 abbrev Inv-loop : tie.InvT-loop
-Inv-loop s numbers₀ row at₀ n₀ i₀ numbers at n i = Records (Found (Stored numbers n) row s at n) row i × Frame numbers₀ n₀ numbers n
+Inv-loop s numbers₀ shape at₀ n₀ i₀ numbers at n i = Records (Found (Stored numbers n) shape s at n) shape i × Frame numbers₀ n₀ numbers n
 
 abbrev μ-loop : tie.MeasureT-loop
-μ-loop s numbers₀ row at₀ n₀ i₀ numbers at n i = 8 * length s - at
+μ-loop s numbers₀ shape at₀ n₀ i₀ numbers at n i = 8 * length s - at
 
 -- what a turn over the pieces looks at
 module _ (c : tie.After-struct-known Inv-loop3 μ-loop3 Inv-loop2 μ-loop2 Inv-loop μ-loop) where
-  abbrev row : Row
-  row = c .before .before .before .before .before .before .before .args .t1
+  abbrev shape : Shape
+  shape = c .before .before .before .before .before .before .before .args .t1
 
   abbrev value : List ℕ
   value = now (c .before .before .before .before .before .before .before .args .s)
@@ -54,10 +54,10 @@ module _ (c : tie.After-struct-known Inv-loop3 μ-loop3 Inv-loop2 μ-loop2 Inv-l
   lent = now (c .before .before .before .before .before .before .before .args .numbers)
 
   abbrev piece : Piece
-  piece = getD (row .pieces) (c .before .before .before .loop2 .i) blank
+  piece = getD (shape .pieces) (c .before .before .before .loop2 .i) blank
 
   abbrev left : List Piece
-  left = leftOf row (c .before .before .before .loop2 .i + 1)
+  left = leftOf shape (c .before .before .before .loop2 .i + 1)
 
   abbrev w : ℕ
   w = piece .1
@@ -68,12 +68,12 @@ module _ (c : tie.After-struct-known Inv-loop3 μ-loop3 Inv-loop2 μ-loop2 Inv-l
   narrow : (1 ≤ w) × (w ≤ 15)
   narrow = subst (λ (m : ℕ). (1 ≤ m) × (m ≤ 15)) (sym wide) (width-some (piece .0))
 
-  roomy : Roomy (readRow row value) (length lent)
+  roomy : Roomy (readShape shape value) (length lent)
   roomy = c .before .before .before .before .before .before .before .pre .1 .1
 
 -- what is known where a field is due: it is there
 module _ (c : tie.In-loop3 Inv-loop3 μ-loop3 Inv-loop2 μ-loop2 Inv-loop μ-loop) where
-  due : Found (Stored (c .before .loop3 .numbers) (c .before .loop3 .n)) (row (c .before .before)) (value (c .before .before)) (c .before .loop3 .at) (c .before .loop3 .n) (piece (c .before .before) ∷ left (c .before .before))
+  due : Found (Stored (c .before .loop3 .numbers) (c .before .loop3 .n)) (shape (c .before .before)) (value (c .before .before)) (c .before .loop3 .at) (c .before .loop3 .n) (piece (c .before .before) ∷ left (c .before .before))
   due = fields-open (c .before .loop3 .inv .0) (c .loop3-test .taken)
 
   there : w (c .before .before) ≤ 8 * length (value (c .before .before)) - c .before .loop3 .at
@@ -121,7 +121,7 @@ module _ (c : tie.After-number-of Inv-loop3 μ-loop3 Inv-loop2 μ-loop2 Inv-loop
   number = c .number-of .ensures ∙ ap asNumber (c .before .value-of .ensures) ∙ number-value (piece t .0) _ ∙ c .before .before .fetch .ensures
 
   next : {more : Bool} → more ≡ goesOn (piece t .2) v
-      → Kept (row t) (value t) (due turn .xs ++ (v ∷ [])) (turn .before .loop3 .at + w t) (turn .before .loop3 .n + 1) (onward (piece t) (left t) more)
+      → Kept (shape t) (value t) (due turn .xs ++ (v ∷ [])) (turn .before .loop3 .at + w t) (turn .before .loop3 .n + 1) (onward (piece t) (left t) more)
   next e = kept-on (due turn .kept) (w t) (wide t) (there turn) v number (roomy-good (roomy t) (due turn .kept) (w t) (wide t) v number) e
 
   room : turn .before .loop3 .n < length (turn .before .loop3 .numbers)

@@ -26,8 +26,8 @@ refused-requires-2 c κs = search needs
 returns-2 : tie.Need-returns-2
 returns-2 c = let a = c .before .before .before .before .before .before .before .before .args in read-big (a .kind) (now (a .value)) (now (a .numbers)) (c .before .before .before .before .before .kind-of .ensures) (c .before .before .before .known .given .1) (c .before .if1 .taken) (c .refused2 .ensures)
 
-row-of-requires : tie.Need-row-of-requires
-row-of-requires c κs = search needs
+shape-of-requires : tie.Need-shape-of-requires
+shape-of-requires c κs = search needs
 
 count-requires : tie.Need-count-requires
 count-requires c κs = search needs
@@ -39,22 +39,22 @@ enum-told-2 : tie.Need-enum-told-2
 enum-told-2 c = search needs
 
 returns-3 : tie.Need-returns-3
-returns-3 c = let a = c .before .before .before .before .before .before .before .before .before .before .before .args in read-refused (a .kind) (now (a .value)) (now (a .numbers)) (c .before .before .before .before .before .before .before .before .kind-of .ensures) (c .before .before .before .before .before .before .known .given .1) (c .before .before .before .before .if1 .left) (c .before .before .before .row-of .ensures) (c .before .before .count .ensures) (c .enum-told2 .given .1)
+returns-3 c = let a = c .before .before .before .before .before .before .before .before .before .before .before .args in read-refused (a .kind) (now (a .value)) (now (a .numbers)) (c .before .before .before .before .before .before .before .before .kind-of .ensures) (c .before .before .before .before .before .before .known .given .1) (c .before .before .before .before .if1 .left) (c .before .before .before .shape-of .ensures) (c .before .before .count .ensures) (c .enum-told2 .given .1)
 
 refused-requires-3 : tie.Need-refused-requires-3
 refused-requires-3 c κs = search needs
 
 returns-4 : tie.Need-returns-4
-returns-4 c = let a = c .before .before .before .before .before .before .before .before .before .before .before .before .before .before .args in read-noroom (a .kind) (now (a .value)) (now (a .numbers)) (c .before .before .before .before .before .before .before .before .before .before .before .kind-of .ensures) (c .before .before .before .before .before .before .before .before .before .known .given .1) (c .before .before .before .before .before .before .before .if1 .left) (c .before .before .before .before .before .before .row-of .ensures) (c .before .before .before .before .before .count .ensures) (c .before .before .before .counted .given .1) (c .before .if2 .taken) (c .refused3 .ensures)
+returns-4 c = let a = c .before .before .before .before .before .before .before .before .before .before .before .before .before .before .args in read-noroom (a .kind) (now (a .value)) (now (a .numbers)) (c .before .before .before .before .before .before .before .before .before .before .before .kind-of .ensures) (c .before .before .before .before .before .before .before .before .before .known .given .1) (c .before .before .before .before .before .before .before .if1 .left) (c .before .before .before .before .before .before .shape-of .ensures) (c .before .before .before .before .before .count .ensures) (c .before .before .before .counted .given .1) (c .before .if2 .taken) (c .refused3 .ensures)
 
 fill-requires : tie.Need-fill-requires
-fill-requires c κs = (c .before .before .before .before .before .before .before .if1 .left, (c .before .before .before .before .before .before .row-of .ensures .walkable, (let a = c .before .before .before .before .before .before .before .before .before .before .before .before .before .before .args in read-roomy (a .kind) (now (a .value)) (now (a .numbers)) (c .before .before .before .before .before .before .before .before .before .before .before .kind-of .ensures) (c .before .before .before .before .before .before .before .before .before .known .given .1) (c .before .before .before .before .before .before .before .if1 .left) (c .before .before .before .before .before .before .row-of .ensures) (c .before .before .before .before .before .count .ensures) (c .before .before .before .counted .given .1) (c .before .if2 .left))))
+fill-requires c κs = (c .before .before .before .before .before .before .before .if1 .left, (c .before .before .before .before .before .before .shape-of .ensures .walkable, (let a = c .before .before .before .before .before .before .before .before .before .before .before .before .before .before .args in read-roomy (a .kind) (now (a .value)) (now (a .numbers)) (c .before .before .before .before .before .before .before .before .before .before .before .kind-of .ensures) (c .before .before .before .before .before .before .before .before .before .known .given .1) (c .before .before .before .before .before .before .before .if1 .left) (c .before .before .before .before .before .before .shape-of .ensures) (c .before .before .before .before .before .count .ensures) (c .before .before .before .counted .given .1) (c .before .if2 .left))))
 
 same-length : tie.Need-same-length
 same-length c = search needs
 
 returns-5 : tie.Need-returns-5
-returns-5 c = let a = c .before .before .before .before .before .before .before .before .before .before .before .before .before .before .before .before .before .args in read-done (a .kind) (now (a .value)) (now (a .numbers)) (c .before .before .before .before .before .before .before .before .before .before .before .before .before .before .kind-of .ensures) (c .before .before .before .before .before .before .before .before .before .before .before .before .known .given .1) (c .before .before .before .before .before .before .before .before .before .before .if1 .left) (c .before .before .before .before .before .before .before .before .before .row-of .ensures) (c .before .before .before .before .before .before .before .before .count .ensures) (c .before .before .before .before .before .before .counted .given .1) (c .before .before .before .before .if2 .left) (c .before .before .fill .ensures)
+returns-5 c = let a = c .before .before .before .before .before .before .before .before .before .before .before .before .before .before .before .before .before .args in read-done (a .kind) (now (a .value)) (now (a .numbers)) (c .before .before .before .before .before .before .before .before .before .before .before .before .before .before .kind-of .ensures) (c .before .before .before .before .before .before .before .before .before .before .before .before .known .given .1) (c .before .before .before .before .before .before .before .before .before .before .if1 .left) (c .before .before .before .before .before .before .before .before .before .shape-of .ensures) (c .before .before .before .before .before .before .before .before .count .ensures) (c .before .before .before .before .before .before .counted .given .1) (c .before .before .before .before .if2 .left) (c .before .before .fill .ensures)
 
 pub pmd-read-spec : {M : Type 1} → statement M
 pmd-read-spec =
@@ -67,7 +67,7 @@ pmd-read-spec =
     returns
     refused-requires-2
     returns-2
-    row-of-requires
+    shape-of-requires
     count-requires
     enum-known-counted
     enum-told-2

@@ -16,39 +16,39 @@ use Rattle.pmd.specs.declared.Piece.{Piece}
 use Rattle.pmd.specs.Table.{widthOf, asNumber}
 use Rattle.pmd.specs.Records.{goesOn, onward}
 use Rattle.pmd.proofs.Fields.{width-some, number-value}
-use Rattle.pmd.specs.declared.Row.{Row}
-use Rattle.pmd.specs.Rows.{leftOf}
+use Rattle.pmd.specs.declared.Shape.{Shape}
+use Rattle.pmd.specs.Shapes.{leftOf}
 use Rattle.pmd.proofs.Walk.{Records, Pieces, Fields, blank, wide-at, pieces-begin, fields-begin, fields-open, fields-on, pieces-on, pieces-over}
 use Rattle.pmd.proofs.Frame.{Frame, frame-begins, frame-then}
-use Rattle.pmd_write.specs.ByRow.{writeRow, fits, Roomy}
+use Rattle.pmd_write.specs.ByShape.{writeShape, fits, Roomy}
 use Rattle.pmd_write.proofs.Laid.{Laid, Run, laid-begins, laid-on, laid-ends, laid-again, fits-lt, roomy-there, roomy-good, roomy-for}
 use Rattle.pmd_write.proofs.Inked.{Inked, inked-begins, inked-long, inked-on, inked-ends, frame-put}
 use Rattle.pmd_write.proofs.put.Statement.{statement}
 use Rattle.pmd_write.proofs.put.Tie as tie
 
 abbrev Inv-loop3 : tie.InvT-loop3
-Inv-loop3 numbers out₀ row pen₀ n₀ i piece f w more₀ out pen n more =
-    Fields (Run (Inked pen out) row numbers n) row i piece n₀ n more × Frame out₀ (pen₀ .at) out (pen .at)
+Inv-loop3 numbers out₀ shape pen₀ n₀ i piece f w more₀ out pen n more =
+    Fields (Run (Inked pen out) shape numbers n) shape i piece n₀ n more × Frame out₀ (pen₀ .at) out (pen .at)
 
 abbrev μ-loop3 : tie.MeasureT-loop3
-μ-loop3 numbers out₀ row pen₀ n₀ i piece f w more₀ out pen n more = length numbers - n
+μ-loop3 numbers out₀ shape pen₀ n₀ i piece f w more₀ out pen n more = length numbers - n
 
 abbrev Inv-loop2 : tie.InvT-loop2
-Inv-loop2 numbers out₀ row pen₀ n₀ i₀ out pen n i = Pieces (Run (Inked pen out) row numbers n) row n₀ i₀ n i × Frame out₀ (pen₀ .at) out (pen .at)
+Inv-loop2 numbers out₀ shape pen₀ n₀ i₀ out pen n i = Pieces (Run (Inked pen out) shape numbers n) shape n₀ i₀ n i × Frame out₀ (pen₀ .at) out (pen .at)
 
 abbrev μ-loop2 : tie.MeasureT-loop2
-μ-loop2 numbers out₀ row pen₀ n₀ i₀ out pen n i = row .size - i
+μ-loop2 numbers out₀ shape pen₀ n₀ i₀ out pen n i = shape .size - i
 
 abbrev Inv-loop : tie.InvT-loop
-Inv-loop numbers out₀ row pen₀ n₀ i₀ out pen n i = Records (Run (Inked pen out) row numbers n) row i × Frame out₀ (pen₀ .at) out (pen .at)
+Inv-loop numbers out₀ shape pen₀ n₀ i₀ out pen n i = Records (Run (Inked pen out) shape numbers n) shape i × Frame out₀ (pen₀ .at) out (pen .at)
 
 abbrev μ-loop : tie.MeasureT-loop
-μ-loop numbers out₀ row pen₀ n₀ i₀ out pen n i = length numbers - n
+μ-loop numbers out₀ shape pen₀ n₀ i₀ out pen n i = length numbers - n
 
 -- what a turn over the pieces looks at
 module _ (c : tie.After-struct-known Inv-loop3 μ-loop3 Inv-loop2 μ-loop2 Inv-loop μ-loop) where
-  abbrev row : Row
-  row = c .before .before .before .before .before .before .before .args .t1
+  abbrev shape : Shape
+  shape = c .before .before .before .before .before .before .before .args .t1
 
   abbrev list : List ℕ
   list = now (c .before .before .before .before .before .before .before .args .numbers)
@@ -57,10 +57,10 @@ module _ (c : tie.After-struct-known Inv-loop3 μ-loop3 Inv-loop2 μ-loop2 Inv-l
   lent = now (c .before .before .before .before .before .before .before .args .out)
 
   abbrev piece : Piece
-  piece = getD (row .pieces) (c .before .before .before .loop2 .i) blank
+  piece = getD (shape .pieces) (c .before .before .before .loop2 .i) blank
 
   abbrev left : List Piece
-  left = leftOf row (c .before .before .before .loop2 .i + 1)
+  left = leftOf shape (c .before .before .before .loop2 .i + 1)
 
   abbrev w : ℕ
   w = piece .1
@@ -71,12 +71,12 @@ module _ (c : tie.After-struct-known Inv-loop3 μ-loop3 Inv-loop2 μ-loop2 Inv-l
   narrow : (1 ≤ w) × (w ≤ 15)
   narrow = subst (λ (m : ℕ). (1 ≤ m) × (m ≤ 15)) (sym wide) (width-some (piece .0))
 
-  roomy : Roomy (writeRow row list) (length lent)
+  roomy : Roomy (writeShape shape list) (length lent)
   roomy = c .before .before .before .before .before .before .before .pre .1
 
 -- what is known where a number is due: it is there, and it is taken
 module _ (c : tie.In-loop3 Inv-loop3 μ-loop3 Inv-loop2 μ-loop2 Inv-loop μ-loop) where
-  due : Run (Inked (c .before .loop3 .pen) (c .before .loop3 .out)) (row (c .before .before)) (list (c .before .before)) (c .before .loop3 .n) (piece (c .before .before) ∷ left (c .before .before))
+  due : Run (Inked (c .before .loop3 .pen) (c .before .loop3 .out)) (shape (c .before .before)) (list (c .before .before)) (c .before .loop3 .n) (piece (c .before .before) ∷ left (c .before .before))
   due = fields-open (c .before .loop3 .inv .0) (c .loop3-test .taken)
 
   there : c .before .loop3 .n < length (list (c .before .before))
@@ -89,7 +89,7 @@ module _ (c : tie.In-loop3 Inv-loop3 μ-loop3 Inv-loop2 μ-loop2 Inv-loop μ-loo
   good = roomy-good (roomy (c .before .before)) (due .laid)
 
   next : {more : Bool} → more ≡ goesOn (piece (c .before .before) .2) v
-      → Laid (row (c .before .before)) (list (c .before .before)) (due .bs ++ digits 2 (w (c .before .before)) v) (c .before .loop3 .n + 1) (onward (piece (c .before .before)) (left (c .before .before)) more)
+      → Laid (shape (c .before .before)) (list (c .before .before)) (due .bs ++ digits 2 (w (c .before .before)) v) (c .before .loop3 .n + 1) (onward (piece (c .before .before)) (left (c .before .before)) more)
   next e = laid-on (due .laid) there v refl (w (c .before .before)) (wide (c .before .before)) good e
 
 loop-holds : tie.Need-loop-holds Inv-loop3 μ-loop3 Inv-loop2 μ-loop2 Inv-loop μ-loop

@@ -13,45 +13,45 @@ use Rattle.pmd.specs.declared.Piece.{Piece}
 use Rattle.pmd.specs.Table.{widthOf}
 use Rattle.pmd.proofs.Fields.{width-some}
 use Rattle.refusals.proofs.Lent.{answers, counts}
-use Rattle.pmd.specs.declared.Row.{Row}
-use Rattle.pmd.specs.Rows.{leftOf}
+use Rattle.pmd.specs.declared.Shape.{Shape}
+use Rattle.pmd.specs.Shapes.{leftOf}
 use Rattle.pmd.proofs.Walk.{Records, Pieces, Fields, blank, wide-at, pieces-begin, fields-begin, fields-open, fields-on, pieces-on, pieces-over}
-use Rattle.pmd_write.specs.ByRow.{weight}
+use Rattle.pmd_write.specs.ByShape.{weight}
 use Rattle.pmd_write.proofs.Laid.{Run, laid-begins, laid-short, laid-bad, laid-on, laid-ends, laid-again, Weighs, weighs-fits, weighs-on}
 use Rattle.pmd_write.proofs.weigh.Statement.{statement}
 use Rattle.pmd_write.proofs.weigh.Tie as tie
 
 abbrev Inv-loop3 : tie.InvT-loop3
-Inv-loop3 numbers row few total₀ n₀ i piece f w step more₀ total n more = Fields (Run (Weighs numbers total n) row numbers n) row i piece n₀ n more
+Inv-loop3 numbers shape few total₀ n₀ i piece f w step more₀ total n more = Fields (Run (Weighs numbers total n) shape numbers n) shape i piece n₀ n more
 
 abbrev μ-loop3 : tie.MeasureT-loop3
-μ-loop3 numbers row few total₀ n₀ i piece f w step more₀ total n more = length numbers - n
+μ-loop3 numbers shape few total₀ n₀ i piece f w step more₀ total n more = length numbers - n
 
 abbrev Inv-loop2 : tie.InvT-loop2
-Inv-loop2 numbers row few total₀ n₀ i₀ total n i = Pieces (Run (Weighs numbers total n) row numbers n) row n₀ i₀ n i
+Inv-loop2 numbers shape few total₀ n₀ i₀ total n i = Pieces (Run (Weighs numbers total n) shape numbers n) shape n₀ i₀ n i
 
 abbrev μ-loop2 : tie.MeasureT-loop2
-μ-loop2 numbers row few total₀ n₀ i₀ total n i = row .size - i
+μ-loop2 numbers shape few total₀ n₀ i₀ total n i = shape .size - i
 
 abbrev Inv-loop : tie.InvT-loop
-Inv-loop numbers row few total₀ n₀ i₀ total n i = Records (Run (Weighs numbers total n) row numbers n) row i
+Inv-loop numbers shape few total₀ n₀ i₀ total n i = Records (Run (Weighs numbers total n) shape numbers n) shape i
 
 abbrev μ-loop : tie.MeasureT-loop
-μ-loop numbers row few total₀ n₀ i₀ total n i = length numbers - n
+μ-loop numbers shape few total₀ n₀ i₀ total n i = length numbers - n
 
 -- what a turn over the pieces looks at
 module _ (c : tie.After-choose2 Inv-loop3 μ-loop3 Inv-loop2 μ-loop2 Inv-loop μ-loop) where
-  abbrev row : Row
-  row = c .before .before .before .before .before .before .before .before .args .t1
+  abbrev shape : Shape
+  shape = c .before .before .before .before .before .before .before .before .args .t1
 
   abbrev list : List ℕ
   list = now (c .before .before .before .before .before .before .before .before .args .numbers)
 
   abbrev piece : Piece
-  piece = getD (row .pieces) (c .before .before .before .before .loop2 .i) blank
+  piece = getD (shape .pieces) (c .before .before .before .before .loop2 .i) blank
 
   abbrev left : List Piece
-  left = leftOf row (c .before .before .before .before .loop2 .i + 1)
+  left = leftOf shape (c .before .before .before .before .loop2 .i + 1)
 
   abbrev w : ℕ
   w = piece .1
@@ -63,7 +63,7 @@ module _ (c : tie.After-choose2 Inv-loop3 μ-loop3 Inv-loop2 μ-loop2 Inv-loop �
   narrow = subst (λ (m : ℕ). (1 ≤ m) × (m ≤ 15)) (sym wide) (width-some (piece .0))
 
 -- what is known where a number is due
-due : (c : tie.In-loop3 Inv-loop3 μ-loop3 Inv-loop2 μ-loop2 Inv-loop μ-loop) → Run (Weighs (list (c .before .before)) (c .before .loop3 .total) (c .before .loop3 .n)) (row (c .before .before)) (list (c .before .before)) (c .before .loop3 .n) (piece (c .before .before) ∷ left (c .before .before))
+due : (c : tie.In-loop3 Inv-loop3 μ-loop3 Inv-loop2 μ-loop2 Inv-loop μ-loop) → Run (Weighs (list (c .before .before)) (c .before .loop3 .total) (c .before .loop3 .n)) (shape (c .before .before)) (list (c .before .before)) (c .before .loop3 .n) (piece (c .before .before) ∷ left (c .before .before))
 due c = fields-open (c .before .loop3 .inv) (c .loop3-test .taken)
 
 add-choose : tie.Need-add-choose Inv-loop3 μ-loop3 Inv-loop2 μ-loop2 Inv-loop μ-loop

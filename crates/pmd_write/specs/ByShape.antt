@@ -1,4 +1,4 @@
--- The bits of numbers as records of a row, how many they are, and the value that is put where there is room for it.
+-- The bits of numbers as records of a shape, how many they are, and the value that is put where there is room for it.
 use mathlib.Core.Path.{_≡_}
 use mathlib.Core.List.{List}
 use mathlib.Core.Bool.{Bool, cond, _&&_}
@@ -7,17 +7,17 @@ use lib.Dec.{ltb, leb}
 use lib.ListN.{length}
 use Rattle.refusals.specs.Outcomes.{Outcome, fine}
 use Rattle.pmd.specs.declared.Field.{Field}
-use Rattle.pmd.specs.Table.{widthOf, valueOf, mayHold}
-use Rattle.pmd.specs.Writing.{bytesFor, writeFrom}
-use Rattle.pmd.specs.declared.Row.{Row}
-use Rattle.pmd.specs.Rows.{leftOf}
+use Rattle.pmd.specs.Table.{widthOf, typed, mayHold}
+use Rattle.pmd.specs.Writing.{bytesOfBits, writeFrom}
+use Rattle.pmd.specs.declared.Shape.{Shape}
+use Rattle.pmd.specs.Shapes.{leftOf}
 
-abbrev pub writeRow : Row → List ℕ → Outcome (List ℕ)
-writeRow row vs = writeFrom (leftOf row (row .again)) (leftOf row 0) vs 0
+abbrev pub writeShape : Shape → List ℕ → Outcome (List ℕ)
+writeShape shape vs = writeFrom (leftOf shape (shape .again)) (leftOf shape 0) vs 0
 
 -- whether a field takes a number: it is not too wide, and not reserved
 abbrev pub fits : Field → ℕ → Bool
-fits f v = ltb v (2 ^ widthOf f) && mayHold (valueOf f v)
+fits f v = ltb v (2 ^ widthOf f) && mayHold (typed f v)
 
 -- how many bits a list of numbers takes; one more than a value has, for a list of more numbers than that
 abbrev pub weight : List ℕ → List ℕ → ℕ
@@ -28,4 +28,4 @@ pub record Roomy (o : Outcome (List ℕ)) (room : ℕ) : Type 0 where
   pub run : List ℕ
   pub is : o ≡ fine run
   pub small : length run ≤ 32768
-  pub fit : bytesFor (length run) ≤ room
+  pub fit : bytesOfBits (length run) ≤ room
