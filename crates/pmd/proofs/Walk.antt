@@ -15,6 +15,7 @@ use Rattle.pmd.specs.Table.{widthOf}
 use Rattle.pmd.specs.Records.{onward}
 use Rattle.pmd.specs.declared.Shape.{Shape}
 use Rattle.pmd.specs.Shapes.{leftOf, widened, Walkable}
+use Rattle.pmd.proofs.Fields.{width-some}
 
 -- what the checker takes to stand outside of the pieces
 abbrev pub blank : Piece
@@ -39,7 +40,7 @@ module _ {shape : Shape} (walkable : Walkable shape) where
   left-none i h = drop-of-length-le (take (shape .size) (shape .pieces)) {i = i} (omega (arith, long))
 
   -- a piece has its field's width
-  pub wide-at : (i : ℕ) → i < shape .size → getD (shape .pieces) i blank .1 ≡ widthOf (getD (shape .pieces) i blank .0)
+  wide-at : (i : ℕ) → i < shape .size → getD (shape .pieces) i blank .1 ≡ widthOf (getD (shape .pieces) i blank .0)
   wide-at i h =
       let xs = take (shape .size) (shape .pieces) in
       let same = getD-take (shape .size) (shape .pieces) i blank h in
@@ -54,9 +55,10 @@ pub record Pieces (K : List Piece → Type 0) (shape : Shape) (place₀ i₀ pla
   pub known : K (leftOf shape i)
   pub gone : place₀ + i ≤ place + i₀
 
--- a piece that is over had a field
+-- the piece has its field's width, and had a field if it is over
 pub record Fields (K : List Piece → Type 0) (shape : Shape) (i : ℕ) (piece : Piece) (place₀ place : ℕ) (more : Bool) : Type 0 where
   pub known : K (onward piece (leftOf shape (i + 1)) more)
+  pub wide : piece .1 ≡ widthOf (piece .0)
   pub since : place₀ ≤ place
   pub past : more ≡ false → place₀ < place
 
@@ -66,16 +68,19 @@ pieces-begin place r = record { known = r .known; gone = omega arith }
 pub fields-begin : {K : List Piece → Type 0} {shape : Shape} {place₀ i₀ place i : ℕ} → Walkable shape → i < shape .size → Pieces K shape place₀ i₀ place i
     → Fields K shape i (getD (shape .pieces) i blank) place place true
 fields-begin {K} {shape} {i = i} walkable h p = record
-    { known = subst K (left-next walkable i h) (p .known); since = omega arith; past = λ e. absurd-eq (cc) }
+    { known = subst K (left-next walkable i h) (p .known); wide = wide-at walkable i h; since = omega arith; past = λ e. absurd-eq (cc) }
 
 module _ {K : List Piece → Type 0} {shape : Shape} {i : ℕ} {piece : Piece} {place₀ place : ℕ} {more : Bool} (f : Fields K shape i piece place₀ place more) where
   pub fields-open : more ≡ true → K (piece ∷ leftOf shape (i + 1))
   fields-open e = subst (λ (b : Bool). K (onward piece (leftOf shape (i + 1)) b)) e (f .known)
 
+  pub fields-narrow : (1 ≤ piece .1) × (piece .1 ≤ 15)
+  fields-narrow = subst (λ (m : ℕ). (1 ≤ m) × (m ≤ 15)) (sym (f .wide)) (width-some (piece .0))
+
   -- one field more
   pub fields-on : {L : List Piece → Type 0} {next : ℕ} {again : Bool} → place < next → L (onward piece (leftOf shape (i + 1)) again)
       → Fields L shape i piece place₀ next again
-  fields-on h k = record { known = k; since = omega (arith, f .since); past = λ e. omega (arith, f .since) }
+  fields-on h k = record { known = k; wide = f .wide; since = omega (arith, f .since); past = λ e. omega (arith, f .since) }
 
   -- the piece is over
   pub pieces-on : {L : List Piece → Type 0} {place₁ i₁ : ℕ} → Pieces L shape place₁ i₁ place₀ i → more ≡ false → Pieces K shape place₁ i₁ place (i + 1)

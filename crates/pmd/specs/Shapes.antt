@@ -3,6 +3,7 @@ use mathlib.Core.Path.{_≡_}
 use mathlib.Core.List.{List, [], _∷_}
 use Prim.Native.Nat.{ℕ, _<_, _≤_}
 use lib.ListN.{length, take, drop}
+use Rattle.refusals.specs.Outcomes.{Outcome, fine}
 use Rattle.pmd.specs.declared.Kind.{Kind}
 use Rattle.pmd.specs.declared.Piece.{Piece}
 use Rattle.pmd.specs.Table.{widthOf, recordOf}
@@ -30,3 +31,9 @@ pub record ShapeFor (kind : Kind) (shape : Shape) : Type 0 where
   pub first : leftOf shape 0 ≡ firstRecord kind
   pub again : leftOf shape (shape .again) ≡ recordOf kind
   pub walkable : Walkable shape
+
+-- an outcome is a list that has room, so that it can be stored or put without a look at what might be wrong
+pub record Roomy (o : Outcome (List ℕ)) (room : ℕ) : Type 0 where
+  pub list : List ℕ
+  pub is : o ≡ fine list
+  pub fits : length list ≤ room

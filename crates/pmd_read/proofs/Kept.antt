@@ -2,31 +2,31 @@
 -- refusal, the end of a record and the end of the value make of it.
 use Prim.Native.Nat.{ℕ, suc, _+_, _-_, _*_, _<_, _≤_}
 use mathlib.Core.Path.{_≡_, refl, sym, ap, ap₂, subst, _∙_}
-use mathlib.Core.List.{List, [], _∷_, _++_, append-nil}
+use mathlib.Core.List.{List, [], _∷_, _++_}
 use mathlib.Core.Bool.{Bool, true, false, cond}
 use native.Mathlib.Omega.{arith}
 use lib.ListN.{length, take, drop, getD, length-drop, length-append}
 use lib.Seq.{drop-drop, take-all}
 use lib.Dec.{ltb, eqb}
 use borrow.Author.Tests.{ltb-true, ltb-false, lt-ltb, le-ltb, eqb-true, eqb-false, eq-eqb, ne-eqb}
-use Rattle.runs.proofs.Cases.{split, absurd-eq}
+use Rattle.runs.proofs.Cases.{split}
 use Rattle.bits.specs.Bits.{bits, fieldAt}
 use Rattle.bits.proofs.Bits.{length-bits}
 use Rattle.bits.proofs.Fields.{field-lt}
-use Rattle.refusals.specs.Outcomes.{Outcome, fine, refused, andThen}
-use Rattle.refusals.specs.declared.Refusal.{Refusal}
+use Rattle.refusals.specs.Outcomes.{Outcome, fine, refused}
+use Rattle.refusals.specs.Lent.{prepend}
 use Rattle.refusals.specs.declared.Refusal.the-variants as R
 use Rattle.pmd.specs.declared.Piece.{Piece}
-use Rattle.pmd.specs.Table.{widthOf, typed, mayHold}
-use Rattle.pmd.specs.Records.{goesOn, onward, width, takes, after, closed, opened}
-use Rattle.refusals.specs.Lent.{prepend}
-use Rattle.pmd.specs.Reading.{padding, readFrom}
-use Rattle.pmd.proofs.Fields.{width-some}
-use Rattle.refusals.proofs.Lent.{prepend-none, prepend-prepend, prepend-fine}
 use Rattle.pmd.specs.declared.Shape.{Shape}
-use Rattle.pmd.specs.Shapes.{leftOf, Walkable}
-use Rattle.pmd.proofs.Walk.{blank, left-next}
-use Rattle.pmd_read.specs.ByShape.{readShape, Roomy}
+use Rattle.pmd.specs.declared.Value.{Value}
+use Rattle.pmd.specs.Table.{widthOf, typed, asNumber, mayHold}
+use Rattle.pmd.specs.Records.{goesOn, onward, width, takes, after, closed, opened}
+use Rattle.pmd.specs.Reading.{padding, readFrom}
+use Rattle.pmd.specs.Shapes.{leftOf, Walkable, Roomy}
+use Rattle.pmd.proofs.Fields.{number-value}
+use Rattle.pmd.proofs.Walk.{Records, Fields, blank, left-next, fields-open, fields-narrow, fields-on}
+use Rattle.pmd.proofs.Begun.{Begun, begun-none, begun-on, begun-as, begun-refused, begun-ends, begun-fits, begun-never}
+use Rattle.pmd_read.specs.ByShape.{readShape}
 
 -- how many bits are left
 length-left : (s : List ℕ) (at : ℕ) → length (drop at (bits s)) ≡ 8 * length s - at
@@ -34,27 +34,32 @@ length-left s at = length-drop at (bits s) ∙ ap (λ (n : ℕ). n - at) (length
 
 -- the reader at a piece
 module _ (steps : ℕ) (again : List Piece) (p : Piece) (left : List Piece) (s : List ℕ) (at : ℕ) where
-  abbrev w : ℕ
-  w = widthOf (p .0)
-
-  abbrev v : ℕ
-  v = fieldAt s at w
-
   abbrev here : Outcome (List ℕ)
   here = readFrom (suc steps) again (p ∷ left) (drop at (bits s)) at
 
-  read-short : 8 * length s - at < w → here ≡ refused R.Bits at
-  unfolding readFrom closed opened width
-  read-short h = simp (length-left s at, lt-ltb _ _ h)
+  abbrev onto : ℕ → ℕ → Outcome (List ℕ)
+  onto w v = prepend (v ∷ []) (readFrom steps again (onward p left (goesOn (p .2) v)) (drop (at + w) (bits s)) (at + w))
 
-  read-bad : w ≤ 8 * length s - at → mayHold (typed (p .0) v) ≡ false → here ≡ refused R.Field at
-  unfolding readFrom closed opened width takes fieldAt
-  read-bad h e = simp (length-left s at, le-ltb _ _ h, lt-ltb _ _ (field-lt s at w), e)
+  abbrev met : ℕ → ℕ → Outcome (List ℕ)
+  met w v = cond (ltb (8 * length s - at) w) (refused R.Bits at) (cond (mayHold (typed (p .0) v)) (onto w v) (refused R.Field at))
 
-  read-on : w ≤ 8 * length s - at → mayHold (typed (p .0) v) ≡ true
-      → here ≡ prepend (v ∷ []) (readFrom steps again (onward p left (goesOn (p .2) v)) (drop (at + w) (bits s)) (at + w))
+  at-piece : here ≡ met (widthOf (p .0)) (fieldAt s at (widthOf (p .0)))
   unfolding readFrom closed opened width takes after fieldAt
-  read-on h e = simp (length-left s at, le-ltb _ _ h, lt-ltb _ _ (field-lt s at w), e, drop-drop)
+  at-piece = simp (length-left s at, lt-ltb _ _ (field-lt s at (widthOf (p .0))), drop-drop)
+
+  -- whose field has w bits, which hold v
+  module _ (w : ℕ) (e : w ≡ widthOf (p .0)) (v : ℕ) (ev : v ≡ fieldAt s at w) where
+    read-is : here ≡ met w v
+    read-is = at-piece ∙ sym (ap₂ met e (ev ∙ ap (fieldAt s at) e))
+
+    read-short : 8 * length s - at < w → here ≡ refused R.Bits at
+    read-short h = read-is ∙ simp (lt-ltb _ _ h)
+
+    read-bad : w ≤ 8 * length s - at → mayHold (typed (p .0) v) ≡ false → here ≡ refused R.Field at
+    read-bad h b = read-is ∙ simp (le-ltb _ _ h, b)
+
+    read-on : w ≤ 8 * length s - at → mayHold (typed (p .0) v) ≡ true → here ≡ onto w v
+    read-on h b = read-is ∙ simp (le-ltb _ _ h, b)
 
 -- the reader where a record is closed
 module _ (steps : ℕ) (again : List Piece) (s : List ℕ) (at : ℕ) where
@@ -80,80 +85,7 @@ pub record Kept (shape : Shape) (s xs : List ℕ) (at n : ℕ) (left : List Piec
   pub few : n ≤ at
   pub inside : at ≤ 8 * length s
   pub enough : 8 * length s ≤ at + steps
-  pub same : prepend xs (readFrom (suc steps) (leftOf shape (shape .again)) left (drop at (bits s)) at) ≡ readShape shape s
-
-pub kept-begins : (shape : Shape) (s : List ℕ) → Kept shape s [] 0 0 (leftOf shape 0)
-kept-begins shape s = record
-    { steps = 8 * length s; long = refl; few = omega arith; inside = omega arith; enough = omega arith; same = prepend-none _ }
-
--- at a piece, of which the field has w bits
-module _ {shape : Shape} {s xs : List ℕ} {at n : ℕ} {p : Piece} {left : List Piece} (k : Kept shape s xs at n (p ∷ left)) (w : ℕ) (e : w ≡ widthOf (p .0)) where
-  pub kept-short : 8 * length s - at < w → readShape shape s ≡ refused R.Bits at
-  unfolding andThen
-  kept-short h =
-      sym (k .same) ∙ ap (prepend xs) (read-short (k .steps) (leftOf shape (shape .again)) p left s at (subst (λ (m : ℕ). 8 * length s - at < m) e h))
-
-  -- and holds v
-  module _ (h : w ≤ 8 * length s - at) (v : ℕ) (ev : v ≡ fieldAt s at w) where
-    there : widthOf (p .0) ≤ 8 * length s - at
-    there = subst (λ (m : ℕ). m ≤ 8 * length s - at) e h
-
-    value : v ≡ fieldAt s at (widthOf (p .0))
-    value = ev ∙ ap (fieldAt s at) e
-
-    pub kept-bad : mayHold (typed (p .0) v) ≡ false → readShape shape s ≡ refused R.Field at
-    unfolding andThen
-    kept-bad b =
-        sym (k .same)
-        ∙ ap (prepend xs) (read-bad (k .steps) (leftOf shape (shape .again)) p left s at there (ap (λ (x : ℕ). mayHold (typed (p .0) x)) (sym value) ∙ b))
-
-    pub kept-on : mayHold (typed (p .0) v) ≡ true → {more : Bool} → more ≡ goesOn (p .2) v → Kept shape s (xs ++ (v ∷ [])) (at + w) (n + 1) (onward p left more)
-    kept-on b {more} em =
-        let some : 1 ≤ w = subst (λ (m : ℕ). 1 ≤ m) (sym e) (width-some (p .0) .0) in
-        let again = leftOf shape (shape .again) in
-        let on = read-on (k .steps) again p left s at there (ap (λ (x : ℕ). mayHold (typed (p .0) x)) (sym value) ∙ b) in
-        record {
-          steps = k .steps - 1;
-          long = length-append xs (v ∷ []) ∙ ap (λ (m : ℕ). m + 1) (k .long);
-          few = omega (arith, k .few);
-          inside = omega (arith, k .inside);
-          enough = omega (arith, k .enough);
-          same =
-              prepend-prepend xs (v ∷ []) _
-              ∙ ap₂ (λ (m : ℕ) (b : Bool). prepend xs (prepend (v ∷ []) (readFrom m again (onward p left b) (drop (at + w) (bits s)) (at + w))))
-              (let q : suc (k .steps - 1) ≡ k .steps = omega (arith, k .enough, k .inside) in q) em
-              ∙ ap₂ (λ (x m : ℕ). prepend xs (prepend (x ∷ []) (readFrom (k .steps) again (onward p left (goesOn (p .2) x)) (drop (at + m) (bits s)) (at + m)))) value e
-              ∙ sym (ap (prepend xs) on) ∙ k .same;
-        }
-
--- where a record is closed
-module _ {shape : Shape} {s xs : List ℕ} {at n : ℕ} (k : Kept shape s xs at n []) where
-  module _ (h : 8 * length s - at < 8) (v : ℕ) (ev : v ≡ fieldAt s at (8 * length s - at)) where
-    closing : readShape shape s ≡ prepend xs (cond (eqb v 0) (fine []) (refused R.Pad at))
-    closing =
-        sym (k .same) ∙ ap (prepend xs) (read-over (k .steps) (leftOf shape (shape .again)) s at h)
-        ∙ ap (λ (x : ℕ). prepend xs (cond (eqb x 0) (fine []) (refused R.Pad at))) (sym ev)
-
-    pub kept-ends : v ≡ 0 → readShape shape s ≡ fine xs
-    unfolding andThen
-    kept-ends z = closing ∙ simp (eq-eqb v 0 z, append-nil)
-
-    pub kept-pad : (v ≡ 0 → ⊥) → readShape shape s ≡ refused R.Pad at
-    unfolding andThen
-    kept-pad z = closing ∙ simp (ne-eqb v 0 z)
-
-  pub kept-again : Walkable shape → 8 ≤ 8 * length s - at → Kept shape s xs at n (leftOf shape (shape .again))
-  kept-again walkable h = record {
-    steps = k .steps;
-    long = k .long;
-    few = k .few;
-    inside = k .inside;
-    enough = k .enough;
-    same =
-        ap (prepend xs)
-        (sym (read-again (k .steps) (leftOf shape (shape .again)) s at (getD (shape .pieces) (shape .again) blank) (leftOf shape (shape .again + 1)) (left-next walkable (shape .again) (walkable .begins)) h))
-        ∙ k .same;
-  }
+  pub begun : Begun (readShape shape s) xs (readFrom (suc steps) (leftOf shape (shape .again)) left (drop at (bits s)) at)
 
 -- what a loop knows: some numbers were found, and this of them
 pub record Found (P : List ℕ → Type 0) (shape : Shape) (s : List ℕ) (at n : ℕ) (left : List Piece) : Type 0 where
@@ -161,24 +93,122 @@ pub record Found (P : List ℕ → Type 0) (shape : Shape) (s : List ℕ) (at n 
   pub also : P xs
   pub kept : Kept shape s xs at n left
 
--- a value whose reading has room is not refused: its next field is there and is good, and the number has room
-never : {A : Type 0} {o : Outcome (List ℕ)} {room : ℕ} {why : Refusal} {place : ℕ} → Roomy o room → o ≡ refused why place → A
-never {o = o} {why = why} {place} r e = let q : refused why place ≡ fine (r .list) = sym e ∙ r .is in absurd-eq (cc)
+pub found-none : {P : List ℕ → Type 0} {shape : Shape} {s : List ℕ} → P [] → Found P shape s 0 0 (leftOf shape 0)
+found-none {s = s} also = record {
+  xs = [];
+  also = also;
+  kept = record { steps = 8 * length s; long = refl; few = omega arith; inside = omega arith; enough = omega arith; begun = begun-none _ };
+}
 
-module _ {shape : Shape} {s xs : List ℕ} {at n room : ℕ} (roomy : Roomy (readShape shape s) room) where
-  module _ {p : Piece} {left : List Piece} (k : Kept shape s xs at n (p ∷ left)) (w : ℕ) (e : w ≡ widthOf (p .0)) where
-    pub roomy-there : w ≤ 8 * length s - at
-    roomy-there = split (ltb (8 * length s - at) w) (λ l. never roomy (kept-short k w e (ltb-true _ _ l))) (λ l. ltb-false _ _ l)
+-- where a field is due
+module _ {P : List ℕ → Type 0} {shape : Shape} {s : List ℕ} {at₀ at n i : ℕ} {p : Piece} {more : Bool} (f : Fields (Found P shape s at n) shape i p at₀ at more) (goes : more ≡ true) where
+  abbrev again : List Piece
+  again = leftOf shape (shape .again)
 
-    pub roomy-good : (v : ℕ) → v ≡ fieldAt s at w → mayHold (typed (p .0) v) ≡ true
-    roomy-good v ev = split (mayHold (typed (p .0) v)) (λ b. b) (λ b. never roomy (kept-bad k w e roomy-there v ev b))
+  abbrev left : List Piece
+  left = leftOf shape (i + 1)
 
-  pub roomy-for : {left : List Piece} → Kept shape s xs at n left → n ≤ room
-  roomy-for k =
-      let o = prepend-fine xs _ (roomy .list) (k .same ∙ roomy .is) in
-      omega (arith, k .long, ap length (o .2), length-append xs (o .0), roomy .fits)
+  pub due : Found P shape s at n (p ∷ left)
+  due = fields-open f goes
 
-  pub roomy-ends : (k : Kept shape s xs at n []) → 8 * length s - at < 8 → readShape shape s ≡ fine xs
-  roomy-ends k h =
+  pub due-fits : (n ≤ at) × (at ≤ 8 * length s) × (1 ≤ p .1) × (p .1 ≤ 15)
+  due-fits = let w = fields-narrow f in (due .kept .few, due .kept .inside, w .0, w .1)
+
+  pub due-short : 8 * length s - at < p .1 → readShape shape s ≡ refused R.Bits at
+  due-short h = begun-refused (due .kept .begun) (read-short (due .kept .steps) again p left s at (p .1) (f .wide) _ refl h)
+
+  -- it is there, and its number stands for the value x
+  module _ (h : p .1 ≤ 8 * length s - at) {v : ℕ} (ev : v ≡ fieldAt s at (p .1)) {x : Value} (ex : x ≡ typed (p .0) v) where
+    pub due-bad : mayHold x ≡ false → readShape shape s ≡ refused R.Field at
+    due-bad b = begun-refused (due .kept .begun) (read-bad (due .kept .steps) again p left s at (p .1) (f .wide) v ev h (ap mayHold (sym ex) ∙ b))
+
+    module _ (b : mayHold x ≡ true) {next : Bool} (e : next ≡ goesOn (p .2) v) where
+      kept-on : Kept shape s (due .xs ++ (v ∷ [])) (at + p .1) (n + 1) (onward p left next)
+      kept-on =
+          let k = due .kept in
+          let fits = due-fits in
+          let m = k .steps - 1 in
+          let on = read-on (k .steps) again p left s at (p .1) (f .wide) v ev h (ap mayHold (sym ex) ∙ b) in
+          let steps : k .steps ≡ suc m = omega (arith, k .enough) in
+          record {
+            steps = m;
+            long = length-append (due .xs) (v ∷ []) ∙ ap (λ (m : ℕ). m + 1) (k .long);
+            few = omega arith;
+            inside = omega arith;
+            enough = omega (arith, k .enough);
+            begun =
+                begun-on (k .begun) (v ∷ [])
+                (on ∙ ap₂ (λ (m : ℕ) (x : Bool). prepend (v ∷ []) (readFrom m again (onward p left x) (drop (at + p .1) (bits s)) (at + p .1))) steps (sym e));
+          }
+
+      pub due-on : {Q : List ℕ → Type 0} → Q (due .xs ++ (v ∷ [])) → Fields (Found Q shape s (at + p .1) (n + 1)) shape i p at₀ (at + p .1) next
+      due-on also = let fits = due-fits in fields-on f (omega arith) (record { xs = _; also = also; kept = kept-on })
+
+  -- of a value whose reading has room the field is there and is good, and its number has room
+  module _ {room : ℕ} (roomy : Roomy (readShape shape s) room) where
+    there : p .1 ≤ 8 * length s - at
+    there =
+        split (ltb (8 * length s - at) (p .1))
+        (λ l. begun-never (due .kept .begun) roomy (read-short (due .kept .steps) again p left s at (p .1) (f .wide) _ refl (ltb-true _ _ l)))
+        (λ l. ltb-false _ _ l)
+
+    good : {v : ℕ} → v ≡ fieldAt s at (p .1) → mayHold (typed (p .0) v) ≡ true
+    good {v} ev =
+        split (mayHold (typed (p .0) v))
+        (λ b. b)
+        (λ b. begun-never (due .kept .begun) roomy (read-bad (due .kept .steps) again p left s at (p .1) (f .wide) v ev there b))
+
+    pub due-sure : (n ≤ at) × (at + p .1 ≤ 8 * length s) × (1 ≤ p .1) × (p .1 ≤ 15) × (n < room)
+    due-sure =
+        let fits = due-fits in
+        let is : fieldAt s at (p .1) ≡ fieldAt s at (p .1) = refl in
+        let k = kept-on there is refl (good is) refl in
+        (fits .0, omega (arith, there), fits .2, fits .3, omega (arith, begun-fits (k .begun) roomy, k .long))
+
+    -- the number r that is stored went through its value
+    pub due-stored : {v r : ℕ} {x : Value} {next : Bool} {Q : List ℕ → Type 0} → v ≡ fieldAt s at (p .1) → x ≡ typed (p .0) v → r ≡ asNumber x
+        → next ≡ goesOn (p .2) r → Q (due .xs ++ (r ∷ [])) → Fields (Found Q shape s (at + p .1) (n + 1)) shape i p at₀ (at + p .1) next
+    due-stored {v} {r} ev ex er e also =
+        let is : r ≡ fieldAt s at (p .1) = er ∙ ap asNumber ex ∙ number-value (p .0) v ∙ ev in
+        due-on there is refl (good is) e also
+
+-- where a record is closed
+module _ {P : List ℕ → Type 0} {shape : Shape} {s : List ℕ} {at n : ℕ} (o : Found P shape s at n []) where
+  module _ (h : 8 * length s - at < 8) {v : ℕ} (ev : v ≡ fieldAt s at (8 * length s - at)) where
+    closing : readFrom (suc (o .kept .steps)) (leftOf shape (shape .again)) [] (drop at (bits s)) at ≡ cond (eqb v 0) (fine []) (refused R.Pad at)
+    closing =
+        read-over (o .kept .steps) (leftOf shape (shape .again)) s at h
+        ∙ ap {A = ℕ} (λ (x : ℕ). cond {A = Outcome (List ℕ)} (eqb x 0) (fine []) (refused R.Pad at)) (sym ev)
+
+    pub over-ends : v ≡ 0 → readShape shape s ≡ fine (o .xs)
+    over-ends z = begun-ends (o .kept .begun) (closing ∙ simp (eq-eqb v 0 z))
+
+    pub over-pad : (v ≡ 0 → ⊥) → readShape shape s ≡ refused R.Pad at
+    over-pad z = begun-refused (o .kept .begun) (closing ∙ simp (ne-eqb v 0 z))
+
+  pub over-again : Walkable shape → 8 ≤ 8 * length s - at → Records (Found P shape s at n) shape (shape .again)
+  over-again walkable h =
+      let k = o .kept in
+      record {
+        known = record {
+          xs = o .xs;
+          also = o .also;
+          kept = record {
+            steps = k .steps;
+            long = k .long;
+            few = k .few;
+            inside = k .inside;
+            enough = k .enough;
+            begun =
+                begun-as (k .begun)
+                (read-again (k .steps) (leftOf shape (shape .again)) s at (getD (shape .pieces) (shape .again) blank) (leftOf shape (shape .again + 1)) (left-next walkable (shape .again) (walkable .begins)) h);
+          };
+        };
+        there = walkable .begins;
+      }
+
+  pub over-stored : {room : ℕ} → Roomy (readShape shape s) room → 8 * length s - at < 8 → readShape shape s ≡ fine (o .xs)
+  over-stored roomy h =
       let v = fieldAt s at (8 * length s - at) in
-      split (eqb v 0) (λ z. kept-ends k h v refl (eqb-true _ _ z)) (λ z. never roomy (kept-pad k h v refl (eqb-false _ _ z)))
+      let is : v ≡ v = refl in
+      split (eqb v 0) (λ z. over-ends h is (eqb-true _ _ z)) (λ z. begun-never (o .kept .begun) roomy {why = R.Pad} {place = at} (closing h is ∙ simp z))

@@ -1,19 +1,12 @@
 -- The reading of a value whose records are those of a shape.
-use mathlib.Core.Path.{_≡_}
 use mathlib.Core.List.{List}
-use Prim.Native.Nat.{ℕ, suc, _*_, _≤_}
+use Prim.Native.Nat.{ℕ, suc, _*_}
 use lib.ListN.{length}
 use Rattle.bits.specs.Bits.{bits}
-use Rattle.refusals.specs.Outcomes.{Outcome, fine}
+use Rattle.refusals.specs.Outcomes.{Outcome}
 use Rattle.pmd.specs.Reading.{readFrom}
 use Rattle.pmd.specs.declared.Shape.{Shape}
 use Rattle.pmd.specs.Shapes.{leftOf}
 
 abbrev pub readShape : Shape → List ℕ → Outcome (List ℕ)
 readShape shape s = readFrom (suc (8 * length s)) (leftOf shape (shape .again)) (leftOf shape 0) (bits s) 0
-
--- an outcome is a list that has room
-pub record Roomy (o : Outcome (List ℕ)) (room : ℕ) : Type 0 where
-  pub list : List ℕ
-  pub is : o ≡ fine list
-  pub fits : length list ≤ room

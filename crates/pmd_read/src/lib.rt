@@ -9,8 +9,8 @@ ghost use lib.ListN.{length};
 ghost use Rattle.refusals.specs.Outcomes.{answered};
 ghost use Rattle.refusals.specs.Lent.{within, lent, Delivered};
 ghost use Rattle.pmd.specs.Reading.{fieldsRead};
-ghost use Rattle.pmd.specs.Shapes.{Walkable};
-ghost use Rattle.pmd_read.specs.ByShape.{readShape, Roomy};
+ghost use Rattle.pmd.specs.Shapes.{Walkable, Roomy};
+ghost use Rattle.pmd_read.specs.ByShape.{readShape};
 
 // How many fields a value has, or what is wrong with it.
 fn count(shape: Shape, s: &[u8]) -> Answer

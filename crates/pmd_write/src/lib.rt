@@ -7,13 +7,15 @@ use refusals::Answer;
 use refusals::Refusal;
 ghost use mathlib.Core.Path.{_≡_};
 ghost use mathlib.Core.Bool.{cond};
+ghost use Prim.Native.Nat.{_*_};
 ghost use lib.ListN.{length};
 ghost use Rattle.refusals.specs.Outcomes.{answered};
 ghost use Rattle.pmd.specs.Table.{widthOf};
 ghost use Rattle.refusals.specs.Lent.{within, Delivered};
 ghost use Rattle.pmd.specs.Writing.{packing, fieldsWritten};
-ghost use Rattle.pmd.specs.Shapes.{Walkable};
-ghost use Rattle.pmd_write.specs.ByShape.{writeShape, fits, weight, Roomy};
+ghost use Rattle.pmd.specs.Records.{fits};
+ghost use Rattle.pmd.specs.Shapes.{Walkable, Roomy};
+ghost use Rattle.pmd_write.specs.ByShape.{writeShape, weight};
 
 // Whether a field of w bits takes the number v.
 fn takes(f: Field, w: usize, v: u32) -> bool
@@ -72,7 +74,7 @@ fn weigh(shape: Shape, numbers: &[u32]) -> Answer
 
 // Puts numbers that were weighed and have room, and answers how many bytes they are.
 fn put(shape: Shape, numbers: &[u32], out: &mut [u8]) -> Answer
-    requires { ⌜ Walkable shape × Roomy (writeShape shape (now numbers)) (length (now out)) ⌝ }
+    requires { ⌜ Walkable shape × Roomy (writeShape shape (now numbers)) (8 * length (now out)) ⌝ }
     ensures { λ r. ⌜ Delivered (packing (writeShape shape (now (numbers .entry)))) (now (out .entry)) r (now (out .exit)) ⌝ }
 {
     let mut pen = Pen {
