@@ -33,10 +33,9 @@ module _ {whole rest : Outcome (List ℕ)} {xs : List ℕ} (b : Begun whole xs r
   unfolding andThen
   begun-ends e = sym (b .same) ∙ ap (prepend xs) e ∙ ap fine (append-nil xs)
 
-  -- a list that has room: the part has, and nothing is refused
-  module _ {room : ℕ} (roomy : Roomy whole room) where
-    pub begun-fits : length xs ≤ room
-    begun-fits = let o = prepend-fine xs rest (roomy .list) (b .same ∙ roomy .is) in omega (arith, ap length (o .2), length-append xs (o .0), roomy .fits)
+  pub begun-fits : {room : ℕ} → Roomy whole room → length xs ≤ room
+  begun-fits roomy = let o = prepend-fine xs rest (roomy .list) (b .same ∙ roomy .is) in omega (arith, ap length (o .2), length-append xs (o .0), roomy .fits)
 
-    pub begun-never : {A : Type 0} {why : Refusal} {place : ℕ} → rest ≡ refused why place → A
-    begun-never {why = why} {place} e = let q : refused why place ≡ fine (roomy .list) = sym (begun-refused e) ∙ roomy .is in absurd-eq (cc)
+-- an outcome that has room is no refusal
+pub roomy-never : {A : Type 0} {o : Outcome (List ℕ)} {room : ℕ} {why : Refusal} {place : ℕ} → Roomy o room → o ≡ refused why place → A
+roomy-never {why = why} {place} roomy e = let q : refused why place ≡ fine (roomy .list) = sym e ∙ roomy .is in absurd-eq (cc)

@@ -36,7 +36,7 @@ module _ {shape : Shape} (walkable : Walkable shape) where
       drop-cons (take (shape .size) (shape .pieces)) i blank (omega (arith, long))
       ∙ ap₂ (λ (p : Piece) (m : ℕ). p ∷ leftOf shape m) (getD-take (shape .size) (shape .pieces) i blank h) (sym (add-one i))
 
-  pub left-none : (i : ℕ) → shape .size ≤ i → leftOf shape i ≡ []
+  left-none : (i : ℕ) → shape .size ≤ i → leftOf shape i ≡ []
   left-none i h = drop-of-length-le (take (shape .size) (shape .pieces)) {i = i} (omega (arith, long))
 
   -- a piece has its field's width

@@ -5,7 +5,7 @@ use mathlib.Core.Path.{_≡_, refl, sym, ap, ap₂, subst, _∙_}
 use mathlib.Core.List.{List, [], _∷_, _++_}
 use mathlib.Core.Bool.{Bool, true, false, cond}
 use native.Mathlib.Omega.{arith}
-use lib.ListN.{length, take, drop, getD, length-drop, length-append}
+use lib.ListN.{length, take, drop, length-drop, length-append}
 use lib.Seq.{drop-drop, take-all}
 use lib.Dec.{ltb, eqb}
 use borrow.Author.Tests.{ltb-true, ltb-false, lt-ltb, le-ltb, eqb-true, eqb-false, eq-eqb, ne-eqb}
@@ -24,42 +24,26 @@ use Rattle.pmd.specs.Records.{goesOn, onward, width, takes, after, closed, open
 use Rattle.pmd.specs.Reading.{padding, readFrom}
 use Rattle.pmd.specs.Shapes.{leftOf, Walkable, Roomy}
 use Rattle.pmd.proofs.Fields.{number-value}
-use Rattle.pmd.proofs.Walk.{Records, Fields, blank, left-next, fields-open, fields-narrow, fields-on}
-use Rattle.pmd.proofs.Begun.{Begun, begun-none, begun-on, begun-as, begun-refused, begun-ends, begun-fits, begun-never}
+use Rattle.pmd.proofs.Walk.{Records, Fields, left-next, fields-open, fields-narrow, fields-on}
+use Rattle.pmd.proofs.Begun.{Begun, begun-none, begun-on, begun-as, begun-refused, begun-ends, begun-fits, roomy-never}
 use Rattle.pmd_read.specs.ByShape.{readShape}
 
 -- how many bits are left
 length-left : (s : List ℕ) (at : ℕ) → length (drop at (bits s)) ≡ 8 * length s - at
 length-left s at = length-drop at (bits s) ∙ ap (λ (n : ℕ). n - at) (length-bits s)
 
--- the reader at a piece
+-- the reader at a piece whose field has w bits, which hold v
 module _ (steps : ℕ) (again : List Piece) (p : Piece) (left : List Piece) (s : List ℕ) (at : ℕ) where
-  abbrev here : Outcome (List ℕ)
-  here = readFrom (suc steps) again (p ∷ left) (drop at (bits s)) at
-
-  abbrev onto : ℕ → ℕ → Outcome (List ℕ)
-  onto w v = prepend (v ∷ []) (readFrom steps again (onward p left (goesOn (p .2) v)) (drop (at + w) (bits s)) (at + w))
-
   abbrev met : ℕ → ℕ → Outcome (List ℕ)
-  met w v = cond (ltb (8 * length s - at) w) (refused R.Bits at) (cond (mayHold (typed (p .0) v)) (onto w v) (refused R.Field at))
+  met w v =
+      cond (ltb (8 * length s - at) w) (refused R.Bits at)
+      (cond (mayHold (typed (p .0) v))
+      (prepend (v ∷ []) (readFrom steps again (onward p left (goesOn (p .2) v)) (drop (at + w) (bits s)) (at + w)))
+      (refused R.Field at))
 
-  at-piece : here ≡ met (widthOf (p .0)) (fieldAt s at (widthOf (p .0)))
+  at-piece : readFrom (suc steps) again (p ∷ left) (drop at (bits s)) at ≡ met (widthOf (p .0)) (fieldAt s at (widthOf (p .0)))
   unfolding readFrom closed opened width takes after fieldAt
   at-piece = simp (length-left s at, lt-ltb _ _ (field-lt s at (widthOf (p .0))), drop-drop)
-
-  -- whose field has w bits, which hold v
-  module _ (w : ℕ) (e : w ≡ widthOf (p .0)) (v : ℕ) (ev : v ≡ fieldAt s at w) where
-    read-is : here ≡ met w v
-    read-is = at-piece ∙ sym (ap₂ met e (ev ∙ ap (fieldAt s at) e))
-
-    read-short : 8 * length s - at < w → here ≡ refused R.Bits at
-    read-short h = read-is ∙ simp (lt-ltb _ _ h)
-
-    read-bad : w ≤ 8 * length s - at → mayHold (typed (p .0) v) ≡ false → here ≡ refused R.Field at
-    read-bad h b = read-is ∙ simp (le-ltb _ _ h, b)
-
-    read-on : w ≤ 8 * length s - at → mayHold (typed (p .0) v) ≡ true → here ≡ onto w v
-    read-on h b = read-is ∙ simp (le-ltb _ _ h, b)
 
 -- the reader where a record is closed
 module _ (steps : ℕ) (again : List Piece) (s : List ℕ) (at : ℕ) where
@@ -78,8 +62,10 @@ module _ (steps : ℕ) (again : List Piece) (s : List ℕ) (at : ℕ) where
       subst (λ (g : List Piece). readFrom (suc steps) g [] (drop at (bits s)) at ≡ readFrom (suc steps) g g (drop at (bits s)) at) (sym e)
       (simp (length-left s at, le-ltb _ _ h))
 
--- the numbers xs, n of them, were found before bit `at`, and this is left of the record
-pub record Kept (shape : Shape) (s xs : List ℕ) (at n : ℕ) (left : List Piece) : Type 0 where
+-- what a loop knows: the numbers xs, n of them and this of them, were found before bit `at`, and this is left of the record
+pub record Found (P : List ℕ → Type 0) (shape : Shape) (s : List ℕ) (at n : ℕ) (left : List Piece) : Type 0 where
+  pub xs : List ℕ
+  pub also : P xs
   pub steps : ℕ
   pub long : length xs ≡ n
   pub few : n ≤ at
@@ -87,18 +73,9 @@ pub record Kept (shape : Shape) (s xs : List ℕ) (at n : ℕ) (left : List Piec
   pub enough : 8 * length s ≤ at + steps
   pub begun : Begun (readShape shape s) xs (readFrom (suc steps) (leftOf shape (shape .again)) left (drop at (bits s)) at)
 
--- what a loop knows: some numbers were found, and this of them
-pub record Found (P : List ℕ → Type 0) (shape : Shape) (s : List ℕ) (at n : ℕ) (left : List Piece) : Type 0 where
-  pub xs : List ℕ
-  pub also : P xs
-  pub kept : Kept shape s xs at n left
-
 pub found-none : {P : List ℕ → Type 0} {shape : Shape} {s : List ℕ} → P [] → Found P shape s 0 0 (leftOf shape 0)
-found-none {s = s} also = record {
-  xs = [];
-  also = also;
-  kept = record { steps = 8 * length s; long = refl; few = omega arith; inside = omega arith; enough = omega arith; begun = begun-none _ };
-}
+found-none {s = s} also = record
+    { xs = []; also = also; steps = 8 * length s; long = refl; few = omega arith; inside = omega arith; enough = omega arith; begun = begun-none _ }
 
 -- where a field is due
 module _ {P : List ℕ → Type 0} {shape : Shape} {s : List ℕ} {at₀ at n i : ℕ} {p : Piece} {more : Bool} (f : Fields (Found P shape s at n) shape i p at₀ at more) (goes : more ≡ true) where
@@ -112,62 +89,58 @@ module _ {P : List ℕ → Type 0} {shape : Shape} {s : List ℕ} {at₀ at n i 
   due = fields-open f goes
 
   pub due-fits : (n ≤ at) × (at ≤ 8 * length s) × (1 ≤ p .1) × (p .1 ≤ 15)
-  due-fits = let w = fields-narrow f in (due .kept .few, due .kept .inside, w .0, w .1)
+  due-fits = let w = fields-narrow f in (due .few, due .inside, w .0, w .1)
+
+  here : {v : ℕ} → v ≡ fieldAt s at (p .1) → readFrom (suc (due .steps)) again (p ∷ left) (drop at (bits s)) at ≡ met (due .steps) again p left s at (p .1) v
+  here e = at-piece (due .steps) again p left s at ∙ sym (ap₂ (met (due .steps) again p left s at) (f .wide) (e ∙ ap (fieldAt s at) (f .wide)))
 
   pub due-short : 8 * length s - at < p .1 → readShape shape s ≡ refused R.Bits at
-  due-short h = begun-refused (due .kept .begun) (read-short (due .kept .steps) again p left s at (p .1) (f .wide) _ refl h)
+  due-short h = begun-refused (due .begun) (here refl ∙ simp (lt-ltb _ _ h))
 
   -- it is there, and its number stands for the value x
   module _ (h : p .1 ≤ 8 * length s - at) {v : ℕ} (ev : v ≡ fieldAt s at (p .1)) {x : Value} (ex : x ≡ typed (p .0) v) where
     pub due-bad : mayHold x ≡ false → readShape shape s ≡ refused R.Field at
-    due-bad b = begun-refused (due .kept .begun) (read-bad (due .kept .steps) again p left s at (p .1) (f .wide) v ev h (ap mayHold (sym ex) ∙ b))
+    due-bad b = begun-refused (due .begun) (here ev ∙ simp (le-ltb _ _ h, ap mayHold (sym ex) ∙ b))
 
-    module _ (b : mayHold x ≡ true) {next : Bool} (e : next ≡ goesOn (p .2) v) where
-      kept-on : Kept shape s (due .xs ++ (v ∷ [])) (at + p .1) (n + 1) (onward p left next)
-      kept-on =
-          let k = due .kept in
+    module _ (b : mayHold x ≡ true) where
+      next : Begun (readShape shape s) (due .xs ++ (v ∷ [])) (readFrom (due .steps) again (onward p left (goesOn (p .2) v)) (drop (at + p .1) (bits s)) (at + p .1))
+      next = begun-on (due .begun) (v ∷ []) (here ev ∙ simp (le-ltb _ _ h, ap mayHold (sym ex) ∙ b))
+
+      pub due-on : {goes-on : Bool} {Q : List ℕ → Type 0} → goes-on ≡ goesOn (p .2) v → Q (due .xs ++ (v ∷ []))
+          → Fields (Found Q shape s (at + p .1) (n + 1)) shape i p at₀ (at + p .1) goes-on
+      due-on e also =
           let fits = due-fits in
-          let m = k .steps - 1 in
-          let on = read-on (k .steps) again p left s at (p .1) (f .wide) v ev h (ap mayHold (sym ex) ∙ b) in
-          let steps : k .steps ≡ suc m = omega (arith, k .enough) in
-          record {
-            steps = m;
-            long = length-append (due .xs) (v ∷ []) ∙ ap (λ (m : ℕ). m + 1) (k .long);
+          let steps : due .steps ≡ suc (due .steps - 1) = omega (arith, due .enough) in
+          fields-on f (omega arith)
+          (record {
+            xs = _;
+            also = also;
+            steps = due .steps - 1;
+            long = length-append (due .xs) (v ∷ []) ∙ ap (λ (m : ℕ). m + 1) (due .long);
             few = omega arith;
             inside = omega arith;
-            enough = omega (arith, k .enough);
-            begun =
-                begun-on (k .begun) (v ∷ [])
-                (on ∙ ap₂ (λ (m : ℕ) (x : Bool). prepend (v ∷ []) (readFrom m again (onward p left x) (drop (at + p .1) (bits s)) (at + p .1))) steps (sym e));
-          }
-
-      pub due-on : {Q : List ℕ → Type 0} → Q (due .xs ++ (v ∷ [])) → Fields (Found Q shape s (at + p .1) (n + 1)) shape i p at₀ (at + p .1) next
-      due-on also = let fits = due-fits in fields-on f (omega arith) (record { xs = _; also = also; kept = kept-on })
+            enough = omega (arith, due .enough);
+            begun = begun-as next (ap₂ (λ (m : ℕ) (x : Bool). readFrom m again (onward p left x) (drop (at + p .1) (bits s)) (at + p .1)) steps (sym e));
+          })
 
   -- of a value whose reading has room the field is there and is good, and its number has room
   module _ {room : ℕ} (roomy : Roomy (readShape shape s) room) where
     there : p .1 ≤ 8 * length s - at
-    there =
-        split (ltb (8 * length s - at) (p .1))
-        (λ l. begun-never (due .kept .begun) roomy (read-short (due .kept .steps) again p left s at (p .1) (f .wide) _ refl (ltb-true _ _ l)))
-        (λ l. ltb-false _ _ l)
+    there = split (ltb (8 * length s - at) (p .1)) (λ l. roomy-never roomy (due-short (ltb-true _ _ l))) (λ l. ltb-false _ _ l)
 
     good : {v : ℕ} → v ≡ fieldAt s at (p .1) → mayHold (typed (p .0) v) ≡ true
-    good {v} ev =
-        split (mayHold (typed (p .0) v))
-        (λ b. b)
-        (λ b. begun-never (due .kept .begun) roomy (read-bad (due .kept .steps) again p left s at (p .1) (f .wide) v ev there b))
+    good {v} ev = split (mayHold (typed (p .0) v)) (λ b. b) (λ b. roomy-never roomy (due-bad there ev refl b))
 
     pub due-sure : (n ≤ at) × (at + p .1 ≤ 8 * length s) × (1 ≤ p .1) × (p .1 ≤ 15) × (n < room)
     due-sure =
         let fits = due-fits in
         let is : fieldAt s at (p .1) ≡ fieldAt s at (p .1) = refl in
-        let k = kept-on there is refl (good is) refl in
-        (fits .0, omega (arith, there), fits .2, fits .3, omega (arith, begun-fits (k .begun) roomy, k .long))
+        let most = begun-fits (next there is refl (good is)) roomy in
+        (fits .0, omega (arith, there), fits .2, fits .3, omega (arith, most, length-append (due .xs) (fieldAt s at (p .1) ∷ []), due .long))
 
     -- the number r that is stored went through its value
-    pub due-stored : {v r : ℕ} {x : Value} {next : Bool} {Q : List ℕ → Type 0} → v ≡ fieldAt s at (p .1) → x ≡ typed (p .0) v → r ≡ asNumber x
-        → next ≡ goesOn (p .2) r → Q (due .xs ++ (r ∷ [])) → Fields (Found Q shape s (at + p .1) (n + 1)) shape i p at₀ (at + p .1) next
+    pub due-stored : {v r : ℕ} {x : Value} {goes-on : Bool} {Q : List ℕ → Type 0} → v ≡ fieldAt s at (p .1) → x ≡ typed (p .0) v → r ≡ asNumber x
+        → goes-on ≡ goesOn (p .2) r → Q (due .xs ++ (r ∷ [])) → Fields (Found Q shape s (at + p .1) (n + 1)) shape i p at₀ (at + p .1) goes-on
     due-stored {v} {r} ev ex er e also =
         let is : r ≡ fieldAt s at (p .1) = er ∙ ap asNumber ex ∙ number-value (p .0) v ∙ ev in
         due-on there is refl (good is) e also
@@ -175,34 +148,30 @@ module _ {P : List ℕ → Type 0} {shape : Shape} {s : List ℕ} {at₀ at n i 
 -- where a record is closed
 module _ {P : List ℕ → Type 0} {shape : Shape} {s : List ℕ} {at n : ℕ} (o : Found P shape s at n []) where
   module _ (h : 8 * length s - at < 8) {v : ℕ} (ev : v ≡ fieldAt s at (8 * length s - at)) where
-    closing : readFrom (suc (o .kept .steps)) (leftOf shape (shape .again)) [] (drop at (bits s)) at ≡ cond (eqb v 0) (fine []) (refused R.Pad at)
+    closing : readFrom (suc (o .steps)) (leftOf shape (shape .again)) [] (drop at (bits s)) at ≡ cond (eqb v 0) (fine []) (refused R.Pad at)
     closing =
-        read-over (o .kept .steps) (leftOf shape (shape .again)) s at h
+        read-over (o .steps) (leftOf shape (shape .again)) s at h
         ∙ ap {A = ℕ} (λ (x : ℕ). cond {A = Outcome (List ℕ)} (eqb x 0) (fine []) (refused R.Pad at)) (sym ev)
 
     pub over-ends : v ≡ 0 → readShape shape s ≡ fine (o .xs)
-    over-ends z = begun-ends (o .kept .begun) (closing ∙ simp (eq-eqb v 0 z))
+    over-ends z = begun-ends (o .begun) (closing ∙ simp (eq-eqb v 0 z))
 
     pub over-pad : (v ≡ 0 → ⊥) → readShape shape s ≡ refused R.Pad at
-    over-pad z = begun-refused (o .kept .begun) (closing ∙ simp (ne-eqb v 0 z))
+    over-pad z = begun-refused (o .begun) (closing ∙ simp (ne-eqb v 0 z))
 
   pub over-again : Walkable shape → 8 ≤ 8 * length s - at → Records (Found P shape s at n) shape (shape .again)
   over-again walkable h =
-      let k = o .kept in
+      let some = left-next walkable (shape .again) (walkable .begins) in
       record {
         known = record {
           xs = o .xs;
           also = o .also;
-          kept = record {
-            steps = k .steps;
-            long = k .long;
-            few = k .few;
-            inside = k .inside;
-            enough = k .enough;
-            begun =
-                begun-as (k .begun)
-                (read-again (k .steps) (leftOf shape (shape .again)) s at (getD (shape .pieces) (shape .again) blank) (leftOf shape (shape .again + 1)) (left-next walkable (shape .again) (walkable .begins)) h);
-          };
+          steps = o .steps;
+          long = o .long;
+          few = o .few;
+          inside = o .inside;
+          enough = o .enough;
+          begun = begun-as (o .begun) (read-again (o .steps) (leftOf shape (shape .again)) s at _ _ some h);
         };
         there = walkable .begins;
       }
@@ -211,4 +180,4 @@ module _ {P : List ℕ → Type 0} {shape : Shape} {s : List ℕ} {at n : ℕ} (
   over-stored roomy h =
       let v = fieldAt s at (8 * length s - at) in
       let is : v ≡ v = refl in
-      split (eqb v 0) (λ z. over-ends h is (eqb-true _ _ z)) (λ z. begun-never (o .kept .begun) roomy {why = R.Pad} {place = at} (closing h is ∙ simp z))
+      split (eqb v 0) (λ z. over-ends h is (eqb-true _ _ z)) (λ z. roomy-never roomy (over-pad h is (eqb-false _ _ z)))

@@ -12,7 +12,7 @@ use Rattle.runs.specs.Digits.{digits}
 use Rattle.runs.proofs.Cases.{split}
 use Rattle.runs.proofs.Digits.{length-digits}
 use Rattle.runs.proofs.Stands.{here}
-use Rattle.refusals.specs.Outcomes.{Outcome, fine, refused}
+use Rattle.refusals.specs.Outcomes.{fine, refused}
 use Rattle.refusals.specs.Lent.{prepend}
 use Rattle.refusals.specs.declared.Refusal.the-variants as R
 use Rattle.pmd.specs.declared.Piece.{Piece}
@@ -21,8 +21,8 @@ use Rattle.pmd.specs.Table.{widthOf}
 use Rattle.pmd.specs.Records.{goesOn, onward, fits, width, takes, after, closed, opened}
 use Rattle.pmd.specs.Writing.{writeFrom}
 use Rattle.pmd.specs.Shapes.{leftOf, Walkable, Roomy}
-use Rattle.pmd.proofs.Walk.{Records, Fields, blank, left-next, fields-open, fields-on}
-use Rattle.pmd.proofs.Begun.{Begun, begun-none, begun-on, begun-as, begun-refused, begun-ends, begun-fits, begun-never}
+use Rattle.pmd.proofs.Walk.{Records, Fields, left-next, fields-open, fields-on}
+use Rattle.pmd.proofs.Begun.{Begun, begun-none, begun-on, begun-as, begun-refused, begun-ends, begun-fits, roomy-never}
 use Rattle.pmd_write.specs.ByShape.{writeShape, weight}
 
 -- the writer at a piece: no number, a number that is not taken, a number that is
@@ -36,11 +36,11 @@ module _ (again : List Piece) (p : Piece) (left : List Piece) (vs : List ℕ) (n
     unfolding writeFrom opened takes
     write-bad b = ap (λ (l : List ℕ). writeFrom again (p ∷ left) l n) (here vs n h) ∙ simp b
 
-    write-on : fits (p .0) (getD vs n 0) ≡ true
+    write-on : (w : ℕ) → w ≡ widthOf (p .0) → fits (p .0) (getD vs n 0) ≡ true
         → writeFrom again (p ∷ left) (drop n vs) n
-        ≡ prepend (digits 2 (widthOf (p .0)) (getD vs n 0)) (writeFrom again (onward p left (goesOn (p .2) (getD vs n 0))) (drop (n + 1) vs) (n + 1))
+        ≡ prepend (digits 2 w (getD vs n 0)) (writeFrom again (onward p left (goesOn (p .2) (getD vs n 0))) (drop (n + 1) vs) (n + 1))
     unfolding writeFrom opened takes width after
-    write-on b = ap (λ (l : List ℕ). writeFrom again (p ∷ left) l n) (here vs n h) ∙ simp b
+    write-on w e b = ap (λ (l : List ℕ). writeFrom again (p ∷ left) l n) (here vs n h) ∙ simp (b, e)
 
 -- and where a record is closed: no number, and numbers that begin another record
 write-over : (again : List Piece) (vs : List ℕ) (n : ℕ) → length vs ≤ n → writeFrom again [] (drop n vs) n ≡ fine []
@@ -83,29 +83,27 @@ module _ {P : List ℕ → Type 0} {shape : Shape} {vs : List ℕ} {n₀ n i : �
     due-bad b = begun-refused (due .begun) (write-bad again p left vs n h b)
 
     module _ (b : fits (p .0) (getD vs n 0) ≡ true) where
-      begun : {next : Bool} → next ≡ goesOn (p .2) (getD vs n 0)
-          → Begun (writeShape shape vs) (due .bs ++ digits 2 (p .1) (getD vs n 0)) (writeFrom again (onward p left next) (drop (n + 1) vs) (n + 1))
-      begun e =
-          begun-on (due .begun) (digits 2 (p .1) (getD vs n 0))
-          (write-on again p left vs n h b
-          ∙ ap₂ (λ (m : ℕ) (x : Bool). prepend (digits 2 m (getD vs n 0)) (writeFrom again (onward p left x) (drop (n + 1) vs) (n + 1))) (sym (f .wide)) (sym e))
+      next : Begun (writeShape shape vs) (due .bs ++ digits 2 (p .1) (getD vs n 0)) (writeFrom again (onward p left (goesOn (p .2) (getD vs n 0))) (drop (n + 1) vs) (n + 1))
+      next = begun-on (due .begun) (digits 2 (p .1) (getD vs n 0)) (write-on again p left vs n h (p .1) (f .wide) b)
 
-      pub due-on : {next : Bool} {Q : List ℕ → Type 0} → next ≡ goesOn (p .2) (getD vs n 0) → Q (due .bs ++ digits 2 (p .1) (getD vs n 0))
-          → Fields (Run Q shape vs (n + 1)) shape i p n₀ (n + 1) next
-      due-on e also = fields-on f (omega arith) (record { bs = _; also = also; inside = omega arith; begun = begun e })
+      pub due-on : {goes-on : Bool} {Q : List ℕ → Type 0} → goes-on ≡ goesOn (p .2) (getD vs n 0) → Q (due .bs ++ digits 2 (p .1) (getD vs n 0))
+          → Fields (Run Q shape vs (n + 1)) shape i p n₀ (n + 1) goes-on
+      due-on e also =
+          let on = begun-as next (ap (λ (x : Bool). writeFrom again (onward p left x) (drop (n + 1) vs) (n + 1)) (sym e)) in
+          fields-on f (omega arith) (record { bs = _; also = also; inside = omega arith; begun = on })
 
   -- in a list whose bits have room the number is there and is taken, and its bits have room
   module _ {room : ℕ} (roomy : Roomy (writeShape shape vs) room) where
     pub due-there : n < length vs
-    due-there = split (leb (length vs) n) (λ l. begun-never (due .begun) roomy (write-short again p left vs n (leb-true _ _ l))) (λ l. leb-false _ _ l)
+    due-there = split (leb (length vs) n) (λ l. roomy-never roomy (due-short (leb-true _ _ l))) (λ l. leb-false _ _ l)
 
     pub due-good : fits (p .0) (getD vs n 0) ≡ true
-    due-good = split (fits (p .0) (getD vs n 0)) (λ b. b) (λ b. begun-never (due .begun) roomy (write-bad again p left vs n due-there b))
+    due-good = split (fits (p .0) (getD vs n 0)) (λ b. b) (λ b. roomy-never roomy (due-bad due-there b))
 
     pub due-room : length (due .bs) + p .1 ≤ room
     due-room =
         let ds = digits 2 (p .1) (getD vs n 0) in
-        omega (arith, begun-fits (begun due-there due-good refl) roomy, length-append (due .bs) ds, length-digits 2 (p .1) (getD vs n 0))
+        omega (arith, begun-fits (next due-there due-good) roomy, length-append (due .bs) ds, length-digits 2 (p .1) (getD vs n 0))
 
 -- where a record is closed
 module _ {P : List ℕ → Type 0} {shape : Shape} {vs : List ℕ} {n : ℕ} (o : Run P shape vs n []) where
@@ -116,7 +114,7 @@ module _ {P : List ℕ → Type 0} {shape : Shape} {vs : List ℕ} {n : ℕ} (o 
   over-again walkable h =
       let g = leftOf shape (shape .again) in
       let l = here vs n h in
-      let next = write-again g (getD (shape .pieces) (shape .again) blank) (leftOf shape (shape .again + 1)) (getD vs n 0) (drop (n + 1) vs) n (left-next walkable (shape .again) (walkable .begins)) in
+      let next = write-again g _ _ (getD vs n 0) (drop (n + 1) vs) n (left-next walkable (shape .again) (walkable .begins)) in
       record {
         known = record {
           bs = o .bs;

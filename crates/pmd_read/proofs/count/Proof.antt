@@ -9,7 +9,7 @@ use lib.ListN.{length}
 use Rattle.refusals.proofs.Lent.{answers, counts}
 use Rattle.refusals.specs.declared.Answer.the-variants as A
 use Rattle.pmd.proofs.Walk.{Records, Pieces, Fields, pieces-begin, fields-begin, pieces-on, pieces-over}
-use Rattle.pmd_read.proofs.Kept.{Found, found-none, due, due-fits, due-short, due-bad, due-on, over-ends, over-pad, over-again}
+use Rattle.pmd_read.proofs.Kept.{Found, found-none, due-fits, due-short, due-bad, due-on, over-ends, over-pad, over-again}
 use Rattle.pmd_read.proofs.count.Statement.{statement}
 use Rattle.pmd_read.proofs.count.Tie as tie
 
@@ -45,23 +45,8 @@ turn c = c .before .before .before .before
 over : (c : tie.After-loop2 Inv-loop3 μ-loop3 Inv-loop2 μ-loop2 Inv-loop μ-loop) → Found Any (start c .args .t1) (start c .args .s .now) (c .before .loop2 .at) (c .before .loop2 .n) []
 over c = pieces-over (start c .pre .1) (c .loop2-test .left) (c .before .loop2 .inv)
 
-loop-holds : tie.Need-loop-holds Inv-loop3 μ-loop3 Inv-loop2 μ-loop2 Inv-loop μ-loop
-loop-holds c = record { known = found-none refl; there = omega arith }
-
-loop2-holds : tie.Need-loop2-holds Inv-loop3 μ-loop3 Inv-loop2 μ-loop2 Inv-loop μ-loop
-loop2-holds c = pieces-begin _ (c .loop .inv)
-
-loop3-holds : tie.Need-loop3-holds Inv-loop3 μ-loop3 Inv-loop2 μ-loop2 Inv-loop μ-loop
-loop3-holds c = fields-begin (c .before .before .before .before .before .before .pre .1) (c .before .before .loop2-test .taken) (c .before .before .before .loop2 .inv)
-
-sub-if1 : tie.Need-sub-if1 Inv-loop3 μ-loop3 Inv-loop2 μ-loop2 Inv-loop μ-loop
-sub-if1 c = due-fits (c .before .loop3 .inv) (c .loop3-test .taken) .1
-
 returns : tie.Need-returns Inv-loop3 μ-loop3 Inv-loop2 μ-loop2 Inv-loop μ-loop
 returns c = let t = c .before .before in answers length (due-short (t .before .loop3 .inv) (t .loop3-test .taken) (c .before .if1 .taken)) (c .refused .ensures)
-
-fetch-requires : tie.Need-fetch-requires Inv-loop3 μ-loop3 Inv-loop2 μ-loop2 Inv-loop μ-loop
-fetch-requires c κs = omega (arith, due-fits (c .before .before .loop3 .inv) (c .before .loop3-test .taken), c .if1 .left)
 
 returns-2 : tie.Need-returns-2 Inv-loop3 μ-loop3 Inv-loop2 μ-loop2 Inv-loop μ-loop
 returns-2 c =
@@ -71,52 +56,22 @@ returns-2 c =
     (due-bad (t .before .loop3 .inv) (t .loop3-test .taken) (h .before .before .before .if1 .left) (h .before .before .fetch .ensures) (h .before .value-of .ensures) (sym (h .holds .ensures) ∙ not-true _ (c .before .if2 .taken)))
     (c .refused2 .ensures)
 
-add-at : tie.Need-add-at Inv-loop3 μ-loop3 Inv-loop2 μ-loop2 Inv-loop μ-loop
-add-at c = let t = turn (c .before) in omega (arith, due-fits (t .before .loop3 .inv) (t .loop3-test .taken), c .before .before .before .before .if1 .left)
-
-add-n : tie.Need-add-n Inv-loop3 μ-loop3 Inv-loop2 μ-loop2 Inv-loop μ-loop
-add-n c = let t = turn (c .before) in omega (arith, due-fits (t .before .loop3 .inv) (t .loop3-test .taken))
-
-loop3-less : tie.Need-loop3-less Inv-loop3 μ-loop3 Inv-loop2 μ-loop2 Inv-loop μ-loop
-loop3-less c = let t = turn (c .before .before) in omega (arith, due-fits (t .before .loop3 .inv) (t .loop3-test .taken), c .before .before .before .before .before .if1 .left)
-
 loop3-again : tie.Need-loop3-again Inv-loop3 μ-loop3 Inv-loop2 μ-loop2 Inv-loop μ-loop
 loop3-again c =
     let h = c .before .before in
     let t = turn h in
     due-on (t .before .loop3 .inv) (t .loop3-test .taken) (h .before .before .before .if1 .left) (h .before .before .fetch .ensures) (h .before .value-of .ensures) (sym (h .holds .ensures) ∙ not-false _ (c .before .if2 .left)) (c .goes-on .ensures) refl
 
-add-i : tie.Need-add-i Inv-loop3 μ-loop3 Inv-loop2 μ-loop2 Inv-loop μ-loop
-add-i c = omega (arith, c .before .before .before .before .loop2-test .taken)
-
-loop2-less : tie.Need-loop2-less Inv-loop3 μ-loop3 Inv-loop2 μ-loop2 Inv-loop μ-loop
-loop2-less c = omega (arith, c .before .before .before .before .loop2-test .taken)
-
-loop2-again : tie.Need-loop2-again Inv-loop3 μ-loop3 Inv-loop2 μ-loop2 Inv-loop μ-loop
-loop2-again c = pieces-on (c .before .loop3 .inv) (c .before .before .before .before .before .loop2 .inv) (c .loop3-test .left)
-
-sub-rest : tie.Need-sub-rest Inv-loop3 μ-loop3 Inv-loop2 μ-loop2 Inv-loop μ-loop
-sub-rest c = c .before .loop2 .inv .known .kept .inside
-
-fetch-requires-2 : tie.Need-fetch-requires-2 Inv-loop3 μ-loop3 Inv-loop2 μ-loop2 Inv-loop μ-loop
-fetch-requires-2 c κs = let i = c .before .before .loop2 .inv .known .kept .inside in (omega (arith, c .if3 .taken), (omega (arith, i), omega arith))
-
 returns-3 : tie.Need-returns-3 Inv-loop3 μ-loop3 Inv-loop2 μ-loop2 Inv-loop μ-loop
 returns-3 c =
     let o = over (c .before .before .before) in
-    counts length (over-ends o (omega (arith, c .before .before .if3 .taken)) (c .before .fetch2 .ensures) (c .if4 .taken)) (ap A.Done (sym (o .kept .long)))
+    counts length (over-ends o (omega (arith, c .before .before .if3 .taken)) (c .before .fetch2 .ensures) (c .if4 .taken)) (ap A.Done (sym (o .long)))
 
 returns-4 : tie.Need-returns-4 Inv-loop3 μ-loop3 Inv-loop2 μ-loop2 Inv-loop μ-loop
 returns-4 c =
     answers length
     (over-pad (over (c .before .before .before .before)) (omega (arith, c .before .before .before .if3 .taken)) (c .before .before .fetch2 .ensures) (c .before .if4 .left))
     (c .refused3 .ensures)
-
-loop-less : tie.Need-loop-less Inv-loop3 μ-loop3 Inv-loop2 μ-loop2 Inv-loop μ-loop
-loop-less c = omega (arith, c .before .before .loop2 .inv .gone, c .before .before .before .loop .inv .there, c .before .loop2-test .left, c .if3 .left)
-
-loop-again : tie.Need-loop-again Inv-loop3 μ-loop3 Inv-loop2 μ-loop2 Inv-loop μ-loop
-loop-again c = over-again (over (c .before)) (start (c .before) .pre .1) (omega (arith, c .if3 .left))
 
 pub count-spec : {M : Type 1} → statement M
 count-spec =
@@ -128,34 +83,34 @@ count-spec =
     μ-loop2
     Inv-loop
     μ-loop
-    loop-holds
-    loop2-holds
+    (λ c. record { known = found-none refl; there = omega arith })
+    (λ c. pieces-begin _ (c .loop .inv))
     (λ c. search needs)
     (λ c. search needs)
     (λ c. search needs)
-    loop3-holds
+    (λ c. fields-begin (c .before .before .before .before .before .before .pre .1) (c .before .before .loop2-test .taken) (c .before .before .before .loop2 .inv))
     (λ c. search needs)
-    sub-if1
+    (λ c. due-fits (c .before .loop3 .inv) (c .loop3-test .taken) .1)
     (λ c κs. search needs)
     returns
-    fetch-requires
+    (λ c κs. omega (arith, due-fits (c .before .before .loop3 .inv) (c .before .loop3-test .taken), c .if1 .left))
     (λ c κs. search needs)
     (λ c κs. search needs)
     (λ c κs. search needs)
     returns-2
-    add-at
-    add-n
+    (λ c. let t = turn (c .before) in omega (arith, due-fits (t .before .loop3 .inv) (t .loop3-test .taken), c .before .before .before .before .if1 .left))
+    (λ c. let t = turn (c .before) in omega (arith, due-fits (t .before .loop3 .inv) (t .loop3-test .taken)))
     (λ c κs. search needs)
-    loop3-less
+    (λ c. let t = turn (c .before .before) in omega (arith, due-fits (t .before .loop3 .inv) (t .loop3-test .taken), c .before .before .before .before .before .if1 .left))
     loop3-again
-    add-i
-    loop2-less
-    loop2-again
+    (λ c. omega (arith, c .before .before .before .before .loop2-test .taken))
+    (λ c. omega (arith, c .before .before .before .before .loop2-test .taken))
+    (λ c. pieces-on (c .before .loop3 .inv) (c .before .before .before .before .before .loop2 .inv) (c .loop3-test .left))
     (λ c. search needs)
-    sub-rest
-    fetch-requires-2
+    (λ c. c .before .loop2 .inv .known .inside)
+    (λ c κs. let i = c .before .before .loop2 .inv .known .inside in (omega (arith, c .if3 .taken), (omega (arith, i), omega arith)))
     returns-3
     (λ c κs. search needs)
     returns-4
-    loop-less
-    loop-again)
+    (λ c. omega (arith, c .before .before .loop2 .inv .gone, c .before .before .before .loop .inv .there, c .before .loop2-test .left, c .if3 .left))
+    (λ c. over-again (over (c .before)) (start (c .before) .pre .1) (omega (arith, c .if3 .left))))

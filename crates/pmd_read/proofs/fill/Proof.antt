@@ -50,21 +50,6 @@ module _ (c : tie.After-loop2 Inv-loop3 μ-loop3 Inv-loop2 μ-loop2 Inv-loop μ-
   kept-rest : Frame (begin c .args .numbers .now) 0 (c .before .loop2 .numbers) (c .before .loop2 .n)
   kept-rest = frame-then (c .before .before .loop .inv .1) (c .before .loop2 .inv .1)
 
-loop-holds : tie.Need-loop-holds Inv-loop3 μ-loop3 Inv-loop2 μ-loop2 Inv-loop μ-loop
-loop-holds c = (record { known = found-none refl; there = omega arith }, frame-begins _ 0)
-
-loop2-holds : tie.Need-loop2-holds Inv-loop3 μ-loop3 Inv-loop2 μ-loop2 Inv-loop μ-loop
-loop2-holds c = (pieces-begin _ (c .loop .inv .0), frame-begins _ _)
-
-loop3-holds : tie.Need-loop3-holds Inv-loop3 μ-loop3 Inv-loop2 μ-loop2 Inv-loop μ-loop
-loop3-holds c = (fields-begin (c .before .before .before .before .before .before .before .pre .1 .0) (c .before .before .loop2-test .taken) (c .before .before .before .loop2 .inv .0), frame-begins _ _)
-
-fetch-requires : tie.Need-fetch-requires Inv-loop3 μ-loop3 Inv-loop2 μ-loop2 Inv-loop μ-loop
-fetch-requires c κs = omega (arith, due-sure (c .before .loop3 .inv .0) (c .loop3-test .taken) (start c .pre .1 .1))
-
-mul-numbers : tie.Need-mul-numbers Inv-loop3 μ-loop3 Inv-loop2 μ-loop2 Inv-loop μ-loop
-mul-numbers c = let t = turn c in omega (arith, due-sure (t .before .loop3 .inv .0) (t .loop3-test .taken) (start t .pre .1 .1))
-
 -- the number that is stored has room
 room : (c : tie.In-loop3 Inv-loop3 μ-loop3 Inv-loop2 μ-loop2 Inv-loop μ-loop) → c .before .loop3 .n < length (c .before .loop3 .numbers)
 room c =
@@ -75,18 +60,6 @@ room c =
       c .before .before .before .before .before .loop2 .inv .1 .long,
       c .before .before .before .before .before .before .loop .inv .1 .long,
     )
-
-slice-write-numbers : tie.Need-slice-write-numbers Inv-loop3 μ-loop3 Inv-loop2 μ-loop2 Inv-loop μ-loop
-slice-write-numbers c = room (turn c)
-
-add-at : tie.Need-add-at Inv-loop3 μ-loop3 Inv-loop2 μ-loop2 Inv-loop μ-loop
-add-at c = let t = turn c in omega (arith, due-sure (t .before .loop3 .inv .0) (t .loop3-test .taken) (start t .pre .1 .1))
-
-add-n : tie.Need-add-n Inv-loop3 μ-loop3 Inv-loop2 μ-loop2 Inv-loop μ-loop
-add-n c = let t = turn c in omega (arith, due-sure (t .before .loop3 .inv .0) (t .loop3-test .taken) (start t .pre .1 .1))
-
-loop3-less : tie.Need-loop3-less Inv-loop3 μ-loop3 Inv-loop2 μ-loop2 Inv-loop μ-loop
-loop3-less c = let t = turn (c .before) in omega (arith, due-sure (t .before .loop3 .inv .0) (t .loop3-test .taken) (start t .pre .1 .1))
 
 loop3-again : tie.Need-loop3-again Inv-loop3 μ-loop3 Inv-loop2 μ-loop2 Inv-loop μ-loop
 loop3-again c =
@@ -100,35 +73,17 @@ loop3-again c =
       frame-then (f .inv .1) (frame-set (f .numbers) (f .n) v),
     )
 
-add-i : tie.Need-add-i Inv-loop3 μ-loop3 Inv-loop2 μ-loop2 Inv-loop μ-loop
-add-i c = omega (arith, c .before .before .before .before .loop2-test .taken)
-
-loop2-less : tie.Need-loop2-less Inv-loop3 μ-loop3 Inv-loop2 μ-loop2 Inv-loop μ-loop
-loop2-less c = omega (arith, c .before .before .before .before .loop2-test .taken)
-
 loop2-again : tie.Need-loop2-again Inv-loop3 μ-loop3 Inv-loop2 μ-loop2 Inv-loop μ-loop
 loop2-again c =
     let p = c .before .before .before .before .before .loop2 .inv in
     let f = c .before .loop3 .inv in
     (pieces-on (f .0) (p .0) (c .loop3-test .left), frame-then (p .1) (f .1))
 
-sub-if1 : tie.Need-sub-if1 Inv-loop3 μ-loop3 Inv-loop2 μ-loop2 Inv-loop μ-loop
-sub-if1 c = c .before .loop2 .inv .0 .known .kept .inside
-
-same-length : tie.Need-same-length Inv-loop3 μ-loop3 Inv-loop2 μ-loop2 Inv-loop μ-loop
-same-length c = kept-rest (c .before) .long
-
 returns : tie.Need-returns Inv-loop3 μ-loop3 Inv-loop2 μ-loop2 Inv-loop μ-loop
 returns c =
     let h = c .before in
     let o = over h in
-    stored-ends (over-stored o (begin h .pre .1 .1) (c .if1 .taken)) (o .kept .long) (o .also) (kept-rest h)
-
-loop-less : tie.Need-loop-less Inv-loop3 μ-loop3 Inv-loop2 μ-loop2 Inv-loop μ-loop
-loop-less c = omega (arith, c .before .before .loop2 .inv .0 .gone, c .before .before .before .loop .inv .0 .there, c .before .loop2-test .left, c .if1 .left)
-
-loop-again : tie.Need-loop-again Inv-loop3 μ-loop3 Inv-loop2 μ-loop2 Inv-loop μ-loop
-loop-again c = (over-again (over (c .before)) (begin (c .before) .pre .1 .0) (c .if1 .left), kept-rest (c .before))
+    stored-ends (over-stored o (begin h .pre .1 .1) (c .if1 .taken)) (o .long) (o .also) (kept-rest h)
 
 pub fill-spec : {M : Type 1} → statement M
 fill-spec =
@@ -140,28 +95,28 @@ fill-spec =
     μ-loop2
     Inv-loop
     μ-loop
-    loop-holds
-    loop2-holds
+    (λ c. (record { known = found-none refl; there = omega arith }, frame-begins _ 0))
+    (λ c. (pieces-begin _ (c .loop .inv .0), frame-begins _ _))
     (λ c. search needs)
     (λ c. search needs)
     (λ c. search needs)
-    loop3-holds
-    fetch-requires
+    (λ c. (fields-begin (c .before .before .before .before .before .before .before .pre .1 .0) (c .before .before .loop2-test .taken) (c .before .before .before .loop2 .inv .0), frame-begins _ _))
+    (λ c κs. omega (arith, due-sure (c .before .loop3 .inv .0) (c .loop3-test .taken) (start c .pre .1 .1)))
     (λ c κs. search needs)
     (λ c κs. search needs)
-    mul-numbers
-    slice-write-numbers
-    add-at
-    add-n
+    (λ c. let t = turn c in omega (arith, due-sure (t .before .loop3 .inv .0) (t .loop3-test .taken) (start t .pre .1 .1)))
+    (λ c. room (turn c))
+    (λ c. let t = turn c in omega (arith, due-sure (t .before .loop3 .inv .0) (t .loop3-test .taken) (start t .pre .1 .1)))
+    (λ c. let t = turn c in omega (arith, due-sure (t .before .loop3 .inv .0) (t .loop3-test .taken) (start t .pre .1 .1)))
     (λ c κs. search needs)
-    loop3-less
+    (λ c. let t = turn (c .before) in omega (arith, due-sure (t .before .loop3 .inv .0) (t .loop3-test .taken) (start t .pre .1 .1)))
     loop3-again
-    add-i
-    loop2-less
+    (λ c. omega (arith, c .before .before .before .before .loop2-test .taken))
+    (λ c. omega (arith, c .before .before .before .before .loop2-test .taken))
     loop2-again
     (λ c. search needs)
-    sub-if1
-    same-length
+    (λ c. c .before .loop2 .inv .0 .known .inside)
+    (λ c. kept-rest (c .before) .long)
     returns
-    loop-less
-    loop-again)
+    (λ c. omega (arith, c .before .before .loop2 .inv .0 .gone, c .before .before .before .loop .inv .0 .there, c .before .loop2-test .left, c .if1 .left))
+    (λ c. (over-again (over (c .before)) (begin (c .before) .pre .1 .0) (c .if1 .left), kept-rest (c .before))))

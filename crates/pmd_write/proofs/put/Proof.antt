@@ -52,24 +52,9 @@ module _ (c : tie.After-loop2 Inv-loop3 μ-loop3 Inv-loop2 μ-loop2 Inv-loop μ-
   kept-rest : Frame (begin c .args .out .now) 0 (c .before .loop2 .out) (c .before .loop2 .pen .at)
   kept-rest = frame-then (c .before .before .loop .inv .1) (c .before .loop2 .inv .1)
 
-loop-holds : tie.Need-loop-holds Inv-loop3 μ-loop3 Inv-loop2 μ-loop2 Inv-loop μ-loop
-loop-holds c = (record { known = run-none (inked-begins _); there = omega arith }, frame-begins _ 0)
-
-loop2-holds : tie.Need-loop2-holds Inv-loop3 μ-loop3 Inv-loop2 μ-loop2 Inv-loop μ-loop
-loop2-holds c = (pieces-begin _ (c .loop .inv .0), frame-begins _ _)
-
-loop3-holds : tie.Need-loop3-holds Inv-loop3 μ-loop3 Inv-loop2 μ-loop2 Inv-loop μ-loop
-loop3-holds c = (fields-begin (c .before .before .before .before .before .before .before .pre .0) (c .before .before .loop2-test .taken) (c .before .before .before .loop2 .inv .0), frame-begins _ _)
-
 -- the number is there
 there : (c : tie.In-loop3 Inv-loop3 μ-loop3 Inv-loop2 μ-loop2 Inv-loop μ-loop) → c .before .loop3 .n < length (start c .args .numbers .now)
 there c = due-there (c .before .loop3 .inv .0) (c .loop3-test .taken) (start c .pre .1)
-
-mul-value-of : tie.Need-mul-value-of Inv-loop3 μ-loop3 Inv-loop2 μ-loop2 Inv-loop μ-loop
-mul-value-of c = omega (arith, there c)
-
-shared-slice-read-value-of : tie.Need-shared-slice-read-value-of Inv-loop3 μ-loop3 Inv-loop2 μ-loop2 Inv-loop μ-loop
-shared-slice-read-value-of c = there (c .before)
 
 -- and its bits have room
 fits : (c : tie.After-number-of Inv-loop3 μ-loop3 Inv-loop2 μ-loop2 Inv-loop μ-loop) → PenFits (turn c .before .loop3 .pen) (getD (start (turn c) .args .t1 .pieces) (turn c .before .before .before .before .before .loop2 .i) blank .1) (c .number-of .result) (turn c .before .loop3 .out)
@@ -77,15 +62,6 @@ fits c =
     let t = turn c in
     inked-fits (t .before .loop3 .inv .0) (t .loop3-test .taken) (start t .pre .1) (c .before .value-of .ensures) (c .number-of .ensures)
     (omega (arith, t .before .loop3 .inv .1 .long, t .before .before .before .before .before .loop2 .inv .1 .long, t .before .before .before .before .before .before .loop .inv .1 .long))
-
-put-field-requires : tie.Need-put-field-requires Inv-loop3 μ-loop3 Inv-loop2 μ-loop2 Inv-loop μ-loop
-put-field-requires c κs = fits (c .before)
-
-add-n : tie.Need-add-n Inv-loop3 μ-loop3 Inv-loop2 μ-loop2 Inv-loop μ-loop
-add-n c = omega (arith, there (turn (c .before .before .before .before)))
-
-loop3-less : tie.Need-loop3-less Inv-loop3 μ-loop3 Inv-loop2 μ-loop2 Inv-loop μ-loop
-loop3-less c = omega (arith, there (turn (c .before .before .before .before .before)))
 
 loop3-again : tie.Need-loop3-again Inv-loop3 μ-loop3 Inv-loop2 μ-loop2 Inv-loop μ-loop
 loop3-again c =
@@ -95,20 +71,11 @@ loop3-again c =
     let put = c .before .before .before .put-field .ensures in
     (inked-on (f .0) (t .loop3-test .taken) (start t .pre .1) (h .before .value-of .ensures) (h .number-of .ensures) (fits h) put (c .goes-on .ensures), frame-then (f .1) (frame-put (fits h) put))
 
-add-i : tie.Need-add-i Inv-loop3 μ-loop3 Inv-loop2 μ-loop2 Inv-loop μ-loop
-add-i c = omega (arith, c .before .before .before .before .loop2-test .taken)
-
-loop2-less : tie.Need-loop2-less Inv-loop3 μ-loop3 Inv-loop2 μ-loop2 Inv-loop μ-loop
-loop2-less c = omega (arith, c .before .before .before .before .loop2-test .taken)
-
 loop2-again : tie.Need-loop2-again Inv-loop3 μ-loop3 Inv-loop2 μ-loop2 Inv-loop μ-loop
 loop2-again c =
     let p = c .before .before .before .before .before .loop2 .inv in
     let f = c .before .loop3 .inv in
     (pieces-on (f .0) (p .0) (c .loop3-test .left), frame-then (p .1) (f .1))
-
-close-pen-requires : tie.Need-close-pen-requires Inv-loop3 μ-loop3 Inv-loop2 μ-loop2 Inv-loop μ-loop
-close-pen-requires c κs = over (c .before .before) .also .ok
 
 same-length : tie.Need-same-length Inv-loop3 μ-loop3 Inv-loop2 μ-loop2 Inv-loop μ-loop
 same-length c = let h = c .before .before .before .before .before in closed-length (over h .also .ok) (c .before .before .close-pen .ensures) ∙ kept-rest h .long
@@ -118,12 +85,6 @@ returns c =
     let h = c .before .before .before .before .before in
     let o = over h in
     inked-ends (over-ends o (c .before .before .before .before .if1 .taken)) (o .also) (kept-rest h) (c .before .before .close-pen .ensures) (λ k. omega (arith, c .slice-known3 .given k))
-
-loop-less : tie.Need-loop-less Inv-loop3 μ-loop3 Inv-loop2 μ-loop2 Inv-loop μ-loop
-loop-less c = omega (arith, c .before .before .loop2 .inv .0 .gone, c .before .before .before .loop .inv .0 .there, c .before .loop2-test .left, c .if1 .left)
-
-loop-again : tie.Need-loop-again Inv-loop3 μ-loop3 Inv-loop2 μ-loop2 Inv-loop μ-loop
-loop-again c = (over-again (over (c .before)) (begin (c .before) .pre .0) (c .if1 .left), kept-rest (c .before))
 
 pub put-spec : {M : Type 1} → statement M
 put-spec =
@@ -135,26 +96,26 @@ put-spec =
     μ-loop2
     Inv-loop
     μ-loop
-    loop-holds
-    loop2-holds
+    (λ c. (record { known = run-none (inked-begins _); there = omega arith }, frame-begins _ 0))
+    (λ c. (pieces-begin _ (c .loop .inv .0), frame-begins _ _))
     (λ c. search needs)
     (λ c. search needs)
     (λ c. search needs)
-    loop3-holds
-    mul-value-of
-    shared-slice-read-value-of
+    (λ c. (fields-begin (c .before .before .before .before .before .before .before .pre .0) (c .before .before .loop2-test .taken) (c .before .before .before .loop2 .inv .0), frame-begins _ _))
+    (λ c. omega (arith, there c))
+    (λ c. there (c .before))
     (λ c κs. search needs)
     (λ c κs. search needs)
-    put-field-requires
-    add-n
+    (λ c κs. fits (c .before))
+    (λ c. omega (arith, there (turn (c .before .before .before .before))))
     (λ c κs. search needs)
-    loop3-less
+    (λ c. omega (arith, there (turn (c .before .before .before .before .before))))
     loop3-again
-    add-i
-    loop2-less
+    (λ c. omega (arith, c .before .before .before .before .loop2-test .taken))
+    (λ c. omega (arith, c .before .before .before .before .loop2-test .taken))
     loop2-again
-    close-pen-requires
+    (λ c κs. over (c .before .before) .also .ok)
     same-length
     returns
-    loop-less
-    loop-again)
+    (λ c. omega (arith, c .before .before .loop2 .inv .0 .gone, c .before .before .before .loop .inv .0 .there, c .before .loop2-test .left, c .if1 .left))
+    (λ c. (over-again (over (c .before)) (begin (c .before) .pre .0) (c .if1 .left), kept-rest (c .before))))

@@ -6,7 +6,7 @@ use mathlib.Core.List.{List, []}
 use native.Mathlib.Omega.{arith}
 use borrow.Author.Needs.{needs}
 use borrow.Author.Tests.{not-true, not-false}
-use lib.ListN.{length, getD}
+use lib.ListN.{length}
 use Rattle.refusals.specs.declared.Answer.the-variants as A
 use Rattle.refusals.proofs.Lent.{answers, counts}
 use Rattle.pmd.proofs.Walk.{Records, Pieces, Fields, pieces-begin, fields-begin, fields-narrow, pieces-on, pieces-over}
@@ -46,26 +46,8 @@ list c = c .before .before .before .before .before .before .before .before .befo
 over : (c : tie.After-loop2 Inv-loop3 μ-loop3 Inv-loop2 μ-loop2 Inv-loop μ-loop) → Run (Weighs (start c .args .numbers .now) (c .before .loop2 .total) (c .before .loop2 .n)) (start c .args .t1) (start c .args .numbers .now) (c .before .loop2 .n) []
 over c = pieces-over (start c .pre) (c .loop2-test .left) (c .before .loop2 .inv)
 
-loop-holds : tie.Need-loop-holds Inv-loop3 μ-loop3 Inv-loop2 μ-loop2 Inv-loop μ-loop
-loop-holds c = record { known = run-none (record { is = c .choose .ensures; low = omega arith }); there = omega arith }
-
-loop2-holds : tie.Need-loop2-holds Inv-loop3 μ-loop3 Inv-loop2 μ-loop2 Inv-loop μ-loop
-loop2-holds c = pieces-begin _ (c .loop .inv)
-
-loop3-holds : tie.Need-loop3-holds Inv-loop3 μ-loop3 Inv-loop2 μ-loop2 Inv-loop μ-loop
-loop3-holds c = fields-begin (c .before .before .before .before .before .before .before .before .pre) (c .before .before .before .loop2-test .taken) (c .before .before .before .before .loop2 .inv)
-
 returns : tie.Need-returns Inv-loop3 μ-loop3 Inv-loop2 μ-loop2 Inv-loop μ-loop
 returns c = let t = c .before .before in answers (weight (list t)) (due-short (t .before .loop3 .inv) (t .loop3-test .taken) (c .before .if1 .taken)) (c .refused .ensures)
-
-mul-v : tie.Need-mul-v Inv-loop3 μ-loop3 Inv-loop2 μ-loop2 Inv-loop μ-loop
-mul-v c = omega (arith, c .if1 .left)
-
-shared-slice-read-v : tie.Need-shared-slice-read-v Inv-loop3 μ-loop3 Inv-loop2 μ-loop2 Inv-loop μ-loop
-shared-slice-read-v c = c .before .if1 .left
-
-takes-requires : tie.Need-takes-requires Inv-loop3 μ-loop3 Inv-loop2 μ-loop2 Inv-loop μ-loop
-takes-requires c κs = c .before .before .before .loop3 .inv .wide
 
 returns-2 : tie.Need-returns-2 Inv-loop3 μ-loop3 Inv-loop2 μ-loop2 Inv-loop μ-loop
 returns-2 c =
@@ -81,12 +63,6 @@ add-total c =
     let f = t .before .loop3 .inv in
     omega (arith, weighs-fits (due f (t .loop3-test .taken) .also) (fields-narrow f .1) (t .before .before .choose2 .ensures) (c .before .before .before .if1 .left))
 
-add-n : tie.Need-add-n Inv-loop3 μ-loop3 Inv-loop2 μ-loop2 Inv-loop μ-loop
-add-n c = omega (arith, c .before .before .before .if1 .left)
-
-loop3-less : tie.Need-loop3-less Inv-loop3 μ-loop3 Inv-loop2 μ-loop2 Inv-loop μ-loop
-loop3-less c = omega (arith, c .before .before .before .before .if1 .left)
-
 loop3-again : tie.Need-loop3-again Inv-loop3 μ-loop3 Inv-loop2 μ-loop2 Inv-loop μ-loop
 loop3-again c =
     let h = c .before .before in
@@ -96,23 +72,8 @@ loop3-again c =
     due-on f o (h .before .before .if1 .left) (sym (h .takes .ensures) ∙ not-false _ (c .before .if2 .left)) (c .goes-on .ensures)
     (weighs-on (due f o .also) (fields-narrow f .1) (t .before .before .choose2 .ensures) _)
 
-add-i : tie.Need-add-i Inv-loop3 μ-loop3 Inv-loop2 μ-loop2 Inv-loop μ-loop
-add-i c = omega (arith, c .before .before .before .before .before .loop2-test .taken)
-
-loop2-less : tie.Need-loop2-less Inv-loop3 μ-loop3 Inv-loop2 μ-loop2 Inv-loop μ-loop
-loop2-less c = omega (arith, c .before .before .before .before .before .loop2-test .taken)
-
-loop2-again : tie.Need-loop2-again Inv-loop3 μ-loop3 Inv-loop2 μ-loop2 Inv-loop μ-loop
-loop2-again c = pieces-on (c .before .loop3 .inv) (c .before .before .before .before .before .before .loop2 .inv) (c .loop3-test .left)
-
 returns-3 : tie.Need-returns-3 Inv-loop3 μ-loop3 Inv-loop2 μ-loop2 Inv-loop μ-loop
 returns-3 c = let o = over (c .before) in counts (weight (start (c .before) .args .numbers .now)) (over-ends o (c .if3 .taken)) (ap A.Done (o .also .is))
-
-loop-less : tie.Need-loop-less Inv-loop3 μ-loop3 Inv-loop2 μ-loop2 Inv-loop μ-loop
-loop-less c = omega (arith, c .before .before .loop2 .inv .gone, c .before .before .before .loop .inv .there, c .before .loop2-test .left, c .if3 .left)
-
-loop-again : tie.Need-loop-again Inv-loop3 μ-loop3 Inv-loop2 μ-loop2 Inv-loop μ-loop
-loop-again c = over-again (over (c .before)) (start (c .before) .pre) (c .if3 .left)
 
 pub weigh-spec : {M : Type 1} → statement M
 weigh-spec =
@@ -126,28 +87,28 @@ weigh-spec =
     μ-loop
     (λ c. search needs)
     (λ c κs. search needs)
-    loop-holds
-    loop2-holds
+    (λ c. record { known = run-none (record { is = c .choose .ensures; low = omega arith }); there = omega arith })
+    (λ c. pieces-begin _ (c .loop .inv))
     (λ c. search needs)
     (λ c. search needs)
     (λ c. search needs)
     (λ c κs. search needs)
-    loop3-holds
+    (λ c. fields-begin (c .before .before .before .before .before .before .before .before .pre) (c .before .before .before .loop2-test .taken) (c .before .before .before .before .loop2 .inv))
     (λ c κs. search needs)
     returns
-    mul-v
-    shared-slice-read-v
-    takes-requires
+    (λ c. omega (arith, c .if1 .left))
+    (λ c. c .before .if1 .left)
+    (λ c κs. c .before .before .before .loop3 .inv .wide)
     (λ c κs. search needs)
     returns-2
     add-total
-    add-n
+    (λ c. omega (arith, c .before .before .before .if1 .left))
     (λ c κs. search needs)
-    loop3-less
+    (λ c. omega (arith, c .before .before .before .before .if1 .left))
     loop3-again
-    add-i
-    loop2-less
-    loop2-again
+    (λ c. omega (arith, c .before .before .before .before .before .loop2-test .taken))
+    (λ c. omega (arith, c .before .before .before .before .before .loop2-test .taken))
+    (λ c. pieces-on (c .before .loop3 .inv) (c .before .before .before .before .before .before .loop2 .inv) (c .loop3-test .left))
     returns-3
-    loop-less
-    loop-again)
+    (λ c. omega (arith, c .before .before .loop2 .inv .gone, c .before .before .before .loop .inv .there, c .before .loop2-test .left, c .if3 .left))
+    (λ c. over-again (over (c .before)) (start (c .before) .pre) (c .if3 .left)))
