@@ -45,9 +45,6 @@ turn c = c .before .before .before .before
 over : (c : tie.After-loop2 Inv-loop3 μ-loop3 Inv-loop2 μ-loop2 Inv-loop μ-loop) → Found Any (start c .args .t1) (start c .args .s .now) (c .before .loop2 .at) (c .before .loop2 .n) []
 over c = pieces-over (start c .pre .1) (c .loop2-test .left) (c .before .loop2 .inv)
 
-returns : tie.Need-returns Inv-loop3 μ-loop3 Inv-loop2 μ-loop2 Inv-loop μ-loop
-returns c = let t = c .before .before in answers length (due-short (t .before .loop3 .inv) (t .loop3-test .taken) (c .before .if1 .taken)) (c .refused .ensures)
-
 returns-2 : tie.Need-returns-2 Inv-loop3 μ-loop3 Inv-loop2 μ-loop2 Inv-loop μ-loop
 returns-2 c =
     let h = c .before .before in
@@ -92,7 +89,7 @@ count-spec =
     (λ c. search needs)
     (λ c. due-fits (c .before .loop3 .inv) (c .loop3-test .taken) .1)
     (λ c κs. search needs)
-    returns
+    (λ c. let t = c .before .before in answers length (due-short (t .before .loop3 .inv) (t .loop3-test .taken) (c .before .if1 .taken)) (c .refused .ensures))
     (λ c κs. omega (arith, due-fits (c .before .before .loop3 .inv) (c .before .loop3-test .taken), c .if1 .left))
     (λ c κs. search needs)
     (λ c κs. search needs)

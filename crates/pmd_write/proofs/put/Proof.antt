@@ -77,9 +77,6 @@ loop2-again c =
     let f = c .before .loop3 .inv in
     (pieces-on (f .0) (p .0) (c .loop3-test .left), frame-then (p .1) (f .1))
 
-same-length : tie.Need-same-length Inv-loop3 μ-loop3 Inv-loop2 μ-loop2 Inv-loop μ-loop
-same-length c = let h = c .before .before .before .before .before in closed-length (over h .also .ok) (c .before .before .close-pen .ensures) ∙ kept-rest h .long
-
 returns : tie.Need-returns Inv-loop3 μ-loop3 Inv-loop2 μ-loop2 Inv-loop μ-loop
 returns c =
     let h = c .before .before .before .before .before in
@@ -115,7 +112,7 @@ put-spec =
     (λ c. omega (arith, c .before .before .before .before .loop2-test .taken))
     loop2-again
     (λ c κs. over (c .before .before) .also .ok)
-    same-length
+    (λ c. let h = c .before .before .before .before .before in closed-length (over h .also .ok) (c .before .before .close-pen .ensures) ∙ kept-rest h .long)
     returns
     (λ c. omega (arith, c .before .before .loop2 .inv .0 .gone, c .before .before .before .loop .inv .0 .there, c .before .loop2-test .left, c .if1 .left))
     (λ c. (over-again (over (c .before)) (begin (c .before) .pre .0) (c .if1 .left), kept-rest (c .before))))

@@ -46,9 +46,6 @@ list c = c .before .before .before .before .before .before .before .before .befo
 over : (c : tie.After-loop2 Inv-loop3 μ-loop3 Inv-loop2 μ-loop2 Inv-loop μ-loop) → Run (Weighs (start c .args .numbers .now) (c .before .loop2 .total) (c .before .loop2 .n)) (start c .args .t1) (start c .args .numbers .now) (c .before .loop2 .n) []
 over c = pieces-over (start c .pre) (c .loop2-test .left) (c .before .loop2 .inv)
 
-returns : tie.Need-returns Inv-loop3 μ-loop3 Inv-loop2 μ-loop2 Inv-loop μ-loop
-returns c = let t = c .before .before in answers (weight (list t)) (due-short (t .before .loop3 .inv) (t .loop3-test .taken) (c .before .if1 .taken)) (c .refused .ensures)
-
 returns-2 : tie.Need-returns-2 Inv-loop3 μ-loop3 Inv-loop2 μ-loop2 Inv-loop μ-loop
 returns-2 c =
     let h = c .before .before in
@@ -72,9 +69,6 @@ loop3-again c =
     due-on f o (h .before .before .if1 .left) (sym (h .takes .ensures) ∙ not-false _ (c .before .if2 .left)) (c .goes-on .ensures)
     (weighs-on (due f o .also) (fields-narrow f .1) (t .before .before .choose2 .ensures) _)
 
-returns-3 : tie.Need-returns-3 Inv-loop3 μ-loop3 Inv-loop2 μ-loop2 Inv-loop μ-loop
-returns-3 c = let o = over (c .before) in counts (weight (start (c .before) .args .numbers .now)) (over-ends o (c .if3 .taken)) (ap A.Done (o .also .is))
-
 pub weigh-spec : {M : Type 1} → statement M
 weigh-spec =
     tie.close
@@ -95,7 +89,7 @@ weigh-spec =
     (λ c κs. search needs)
     (λ c. fields-begin (c .before .before .before .before .before .before .before .before .pre) (c .before .before .before .loop2-test .taken) (c .before .before .before .before .loop2 .inv))
     (λ c κs. search needs)
-    returns
+    (λ c. let t = c .before .before in answers (weight (list t)) (due-short (t .before .loop3 .inv) (t .loop3-test .taken) (c .before .if1 .taken)) (c .refused .ensures))
     (λ c. omega (arith, c .if1 .left))
     (λ c. c .before .if1 .left)
     (λ c κs. c .before .before .before .loop3 .inv .wide)
@@ -109,6 +103,6 @@ weigh-spec =
     (λ c. omega (arith, c .before .before .before .before .before .loop2-test .taken))
     (λ c. omega (arith, c .before .before .before .before .before .loop2-test .taken))
     (λ c. pieces-on (c .before .loop3 .inv) (c .before .before .before .before .before .before .loop2 .inv) (c .loop3-test .left))
-    returns-3
+    (λ c. let o = over (c .before) in counts (weight (start (c .before) .args .numbers .now)) (over-ends o (c .if3 .taken)) (ap A.Done (o .also .is)))
     (λ c. omega (arith, c .before .before .loop2 .inv .gone, c .before .before .before .loop .inv .there, c .before .loop2-test .left, c .if3 .left))
     (λ c. over-again (over (c .before)) (start (c .before) .pre) (c .if3 .left)))
