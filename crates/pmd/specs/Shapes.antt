@@ -1,4 +1,4 @@
--- A shape: the pieces of a kind as the loops of the reader and the writer walk them.
+-- What the loops of the reader and the writer go by: the pieces of a kind as they walk them, the number of a value, and a list that has room.
 use mathlib.Core.Path.{_≡_}
 use mathlib.Core.List.{List, [], _∷_}
 use Prim.Native.Nat.{ℕ, _<_, _≤_}
@@ -6,9 +6,23 @@ use lib.ListN.{length, take, drop}
 use Rattle.refusals.specs.Outcomes.{Outcome, fine}
 use Rattle.pmd.specs.declared.Kind.{Kind}
 use Rattle.pmd.specs.declared.Piece.{Piece}
+use Rattle.pmd.specs.declared.Value.{Value}
+use Rattle.pmd.specs.declared.Value.the-variants as X
 use Rattle.pmd.specs.Table.{widthOf, recordOf}
 use Rattle.pmd.specs.Records.{firstRecord}
 use Rattle.pmd.specs.declared.Shape.{Shape}
+
+-- the number that stands for a value
+abbrev pub asNumber : Value → ℕ
+asNumber (X.Presentation id) = id .0
+asNumber (X.Element id) = id .0
+asNumber (X.Substream id) = id .0
+asNumber (X.SpeakerConfig v) = v
+asNumber (X.Langcod v) = v
+asNumber (X.Class v) = v
+asNumber (X.Coordinate v) = v
+asNumber X.Terminator = 0
+asNumber (X.Plain v) = v
 
 -- what is left of a shape from its piece i on
 abbrev pub leftOf : Shape → ℕ → List Piece

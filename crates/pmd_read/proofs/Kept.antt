@@ -19,10 +19,10 @@ use Rattle.refusals.specs.declared.Refusal.the-variants as R
 use Rattle.pmd.specs.declared.Piece.{Piece}
 use Rattle.pmd.specs.declared.Shape.{Shape}
 use Rattle.pmd.specs.declared.Value.{Value}
-use Rattle.pmd.specs.Table.{widthOf, typed, asNumber, mayHold}
+use Rattle.pmd.specs.Table.{widthOf, typed, mayHold}
 use Rattle.pmd.specs.Records.{goesOn, onward, width, takes, after, closed, opened}
 use Rattle.pmd.specs.Reading.{padding, readFrom}
-use Rattle.pmd.specs.Shapes.{leftOf, Walkable, Roomy}
+use Rattle.pmd.specs.Shapes.{asNumber, leftOf, Walkable, Roomy}
 use Rattle.pmd.proofs.Fields.{number-value}
 use Rattle.pmd.proofs.Walk.{Records, Fields, left-next, fields-open, fields-narrow, fields-on}
 use Rattle.pmd.proofs.Begun.{Begun, begun-none, begun-on, begun-as, begun-refused, begun-ends, begun-fits, roomy-never}

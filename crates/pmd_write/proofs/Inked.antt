@@ -19,10 +19,10 @@ use Rattle.refusals.specs.Lent.{Delivered}
 use Rattle.pmd.specs.declared.Piece.{Piece}
 use Rattle.pmd.specs.declared.Shape.{Shape}
 use Rattle.pmd.specs.declared.Value.{Value}
-use Rattle.pmd.specs.Table.{typed, asNumber}
+use Rattle.pmd.specs.Table.{typed}
 use Rattle.pmd.specs.Records.{goesOn}
 use Rattle.pmd.specs.Writing.{packed, packing}
-use Rattle.pmd.specs.Shapes.{Roomy}
+use Rattle.pmd.specs.Shapes.{asNumber, Roomy}
 use Rattle.refusals.proofs.Lent.{delivered-fine}
 use Rattle.pmd.proofs.Fields.{number-value}
 use Rattle.pmd.proofs.Records.{fits-lt}
