@@ -9,8 +9,8 @@ use Rattle.pack.specs.Reading.{checked}
 use Rattle.pack_rows.specs.Rows.{rowsRead}
 use Rattle.scrub_kept.specs.Scrubbed.{scrubbed}
 use Rattle.refusals.specs.Lent.{within}
-use Rattle.pmd.specs.Reading.{reading}
-use Rattle.pmd.specs.Writing.{writing}
+use Rattle.pmd.specs.Reading.{fieldsRead}
+use Rattle.pmd.specs.Writing.{fieldsWritten}
 use Rattle.pmd.specs.Gain.{levelOf}
 use Rattle.ballastwren.specs.Told.{toldOf, toldGainOf, Given, Left}
 use Rattle.ballastwren.specs.declared.Told.{Told}
@@ -31,12 +31,12 @@ pub bw-scrub-one : (sheet pack before us vs : List ℕ) (a b : Told)
 bw-scrub-one sheet pack before us vs a b p q = (one (p .answers) (q .answers), one (p .buffer) (q .buffer))
 
 pub bw-pmd-read-one : (kind : ℕ) (value before us vs : List ℕ) (a b : Told)
-    → Given (within (length before) (reading kind value)) before a us → Given (within (length before) (reading kind value)) before b vs
+    → Given (within (length before) (fieldsRead kind value)) before a us → Given (within (length before) (fieldsRead kind value)) before b vs
     → (a ≡ b) × (us ≡ vs)
 bw-pmd-read-one kind value before us vs a b = given-one
 
 pub bw-pmd-write-one : (kind : ℕ) (numbers before us vs : List ℕ) (a b : Told)
-    → Given (within (length before) (writing kind numbers)) before a us → Given (within (length before) (writing kind numbers)) before b vs
+    → Given (within (length before) (fieldsWritten kind numbers)) before a us → Given (within (length before) (fieldsWritten kind numbers)) before b vs
     → (a ≡ b) × (us ≡ vs)
 bw-pmd-write-one kind numbers before us vs a b = given-one
 

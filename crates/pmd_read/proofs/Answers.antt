@@ -1,4 +1,4 @@
--- What `pmd_read` delivers at each of its returns.
+-- What is read by the kind's number, and what is delivered of a value that was counted.
 use Prim.Native.Nat.{ℕ, suc, _*_, _<_, _≤_}
 use mathlib.Core.Path.{_≡_, sym, ap, ap₂, _∙_}
 use mathlib.Core.List.{List}
@@ -6,65 +6,51 @@ use native.Mathlib.Omega.{arith}
 use lib.ListN.{length}
 use borrow.Author.Tests.{lt-ltb, le-ltb}
 use Rattle.bits.specs.Bits.{bits}
-use Rattle.refusals.specs.Outcomes.{Outcome, refused, andThen, answered}
-use Rattle.refusals.specs.declared.Refusal.{Refusal}
+use Rattle.refusals.specs.Outcomes.{Outcome, refused, answered}
+use Rattle.refusals.specs.Lent.{within, lent, Delivered}
 use Rattle.refusals.specs.declared.Refusal.the-variants as R
 use Rattle.refusals.specs.declared.Answer.{Answer}
 use Rattle.refusals.specs.declared.Answer.the-variants as A
+use Rattle.refusals.proofs.Lent.{done-was}
 use Rattle.pmd.specs.declared.Kind.{Kind}
 use Rattle.pmd.specs.declared.Named.{Named}
 use Rattle.pmd.specs.declared.Named.the-variants as N
 use Rattle.pmd.specs.declared.Piece.{Piece}
+use Rattle.pmd.specs.declared.Shape.{Shape}
 use Rattle.pmd.specs.Table.{kindOf}
-use Rattle.refusals.specs.Lent.{within, lent, Delivered}
-use Rattle.pmd.specs.Reading.{readFrom, readAs, reading}
-use Rattle.refusals.proofs.Lent.{fine-within, none-within, refused-was, done-was, delivered-refused, delivered-fine}
-use Rattle.pmd.specs.declared.Row.{Row}
-use Rattle.pmd.specs.Rows.{RowFor}
-use Rattle.pmd_read.specs.ByRow.{readRow, Roomy}
+use Rattle.pmd.specs.Reading.{readFrom, readAs, fieldsRead}
+use Rattle.pmd.specs.Shapes.{ShapeFor, Roomy}
+use Rattle.pmd.proofs.Answers.{delivers-noroom, delivers-all}
+use Rattle.pmd_read.specs.ByShape.{readShape}
 
-module _ (kind : ℕ) (s before : List ℕ) where
-  abbrev outcome : Outcome (List ℕ)
-  outcome = within (length before) (reading kind s)
+module _ (kind : ℕ) (s : List ℕ) {named : Named} (e : named ≡ kindOf kind) where
+  as-named : {other : Named} → named ≡ other → fieldsRead kind s ≡ readAs other s
+  as-named k = ap (λ (n : Named). readAs n s) (sym e ∙ k)
 
-  refuses : {why : Refusal} {place : ℕ} {r : Answer} → reading kind s ≡ refused why place → r ≡ A.Refused why place → Delivered outcome before r before
-  unfolding andThen
-  refuses e h = delivered-refused (ap (within (length before)) e) h
+  pub read-unknown : named ≡ N.Unknown → fieldsRead kind s ≡ refused R.Kind 0
+  unfolding readAs
+  read-unknown k = as-named k
 
-  module _ {named : Named} (e : named ≡ kindOf kind) where
-    as-named : (other : Named) → named ≡ other → reading kind s ≡ readAs other s
-    as-named other k = ap (λ (n : Named). readAs n s) (sym e ∙ k)
-
-    pub read-unknown : {r : Answer} → named ≡ N.Unknown → r ≡ A.Refused R.Kind 0 → Delivered outcome before r before
+  module _ {known : Kind} (k : named ≡ N.Known known) where
+    pub read-big : 4096 < length s → fieldsRead kind s ≡ refused R.Big 0
     unfolding readAs
-    read-unknown k h = refuses (as-named N.Unknown k) h
+    read-big l = as-named k ∙ simp (lt-ltb _ _ l)
 
-    module _ {known : Kind} (k : named ≡ N.Known known) where
-      pub read-big : {r : Answer} → 4096 < length s → r ≡ A.Refused R.Big 0 → Delivered outcome before r before
-      unfolding readAs
-      read-big l h = refuses (as-named (N.Known known) k ∙ simp (lt-ltb _ _ l)) h
+    pub read-shape : {shape : Shape} → length s ≤ 4096 → ShapeFor known shape → fieldsRead kind s ≡ readShape shape s
+    unfolding readAs
+    read-shape l holds =
+        as-named k
+        ∙ simp (le-ltb _ _ l) (sym (ap₂ (λ (again first : List Piece). readFrom (suc (8 * length s)) again first (bits s) 0) (holds .again) (holds .first)))
 
-      module _ (small : length s ≤ 4096) {row : Row} (holds : RowFor known row) {counted : Answer} (c : counted ≡ answered length (readRow row s)) where
-        by-row : reading kind s ≡ readRow row s
-        unfolding readAs
-        by-row =
-            as-named (N.Known known) k
-            ∙ simp (le-ltb _ _ small) (sym (ap₂ (λ (again first : List Piece). readFrom (suc (8 * length s)) again first (bits s) 0) (holds .again) (holds .first)))
+-- n numbers were counted
+module _ {read o : Outcome (List ℕ)} (e : read ≡ o) {counted : Answer} {n : ℕ} (c : counted ≡ answered length o) (done : counted ≡ A.Done n) where
+  pub counted-noroom : {before : List ℕ} {r : Answer} → length before < n → r ≡ A.Refused R.NoRoom 0 → Delivered (within (length before) read) before r before
+  counted-noroom l h = let x = done-was length c done in delivers-noroom (e ∙ x .1) (omega (arith, x .2)) h
 
-        pub read-refused : {why : Refusal} {place : ℕ} → counted ≡ A.Refused why place → Delivered outcome before counted before
-        read-refused h = refuses (by-row ∙ refused-was length c h) h
+  pub counted-roomy : (room : ℕ) → n ≤ room → Roomy o room
+  counted-roomy room l = let x = done-was length c done in record { list = x .0; is = x .1; fits = omega (arith, x .2) }
 
-        module _ {n : ℕ} (done : counted ≡ A.Done n) where
-          pub read-noroom : {r : Answer} → length before < n → r ≡ A.Refused R.NoRoom 0 → Delivered outcome before r before
-          read-noroom l h =
-              let x = done-was length c done in
-              delivered-refused (ap (within (length before)) (by-row ∙ x .1) ∙ none-within (length before) (x .0) (omega (arith, x .2))) h
-
-          pub read-roomy : n ≤ length before → Roomy (readRow row s) (length before)
-          read-roomy l = let x = done-was length c done in record { list = x .0; is = x .1; fits = omega (arith, x .2) }
-
-          pub read-done : {after : List ℕ} → n ≤ length before → after ≡ lent before (readRow row s) → Delivered outcome before (A.Done n) after
-          unfolding lent
-          read-done l w =
-              let x = done-was length c done in
-              delivered-fine (ap (within (length before)) (by-row ∙ x .1) ∙ fine-within (length before) (x .0) (omega (arith, x .2))) (ap A.Done (sym (x .2))) (w ∙ ap (lent before) (x .1))
+  pub counted-all : {before after : List ℕ} → n ≤ length before → after ≡ lent before o → Delivered (within (length before) read) before (A.Done n) after
+  counted-all {before} l w =
+      let x = done-was length c done in
+      delivers-all (e ∙ x .1) (omega (arith, x .2)) (record { told = sym done ∙ c ∙ sym (ap (answered length) e); run = w ∙ sym (ap (lent before) e) })

@@ -1,6 +1,6 @@
 // Reads PMD values into lent numbers. A value is judged and counted in a first pass and stored in a second, so that a refusal changes nothing.
 use pmd::Named;
-use pmd::Row;
+use pmd::Shape;
 use refusals::Answer;
 use refusals::Refusal;
 ghost use mathlib.Core.Path.{_≡_};
@@ -8,21 +8,21 @@ ghost use Prim.Native.Nat.{_-_, _*_, _<_, _≤_};
 ghost use lib.ListN.{length};
 ghost use Rattle.refusals.specs.Outcomes.{answered};
 ghost use Rattle.refusals.specs.Lent.{within, lent, Delivered};
-ghost use Rattle.pmd.specs.Reading.{reading};
-ghost use Rattle.pmd.specs.Rows.{Walkable};
-ghost use Rattle.pmd_read.specs.ByRow.{readRow, Roomy};
+ghost use Rattle.pmd.specs.Reading.{fieldsRead};
+ghost use Rattle.pmd.specs.Shapes.{Walkable, Roomy};
+ghost use Rattle.pmd_read.specs.ByShape.{readShape};
 
 // How many fields a value has, or what is wrong with it.
-fn count(row: Row, s: &[u8]) -> Answer
-    requires { ⌜ (length (now s) ≤ 4096) × Walkable row ⌝ }
-    ensures { λ r. ⌜ r ≡ answered length (readRow row (now (s .entry))) ⌝ }
+fn count(shape: Shape, s: &[u8]) -> Answer
+    requires { ⌜ (length (now s) ≤ 4096) × Walkable shape ⌝ }
+    ensures { λ r. ⌜ r ≡ answered length (readShape shape (now (s .entry))) ⌝ }
 {
     let mut at: usize = 0;
     let mut n: usize = 0;
     let mut i: usize = 0;
     loop {
-        while i < row.size {
-            let piece = row.pieces[i];
+        while i < shape.size {
+            let piece = shape.pieces[i];
             let f = piece.0;
             let w = piece.1 as usize;
             let mut more = true;
@@ -47,21 +47,21 @@ fn count(row: Row, s: &[u8]) -> Answer
             }
             return pmd::refused(Refusal::Pad, at);
         }
-        i = row.again;
+        i = shape.again;
     }
 }
 
 // Stores the fields of a value that was counted and has room.
-fn fill(row: Row, s: &[u8], numbers: &mut [u32])
-    requires { ⌜ (length (now s) ≤ 4096) × (Walkable row × Roomy (readRow row (now s)) (length (now numbers))) ⌝ }
-    ensures { λ _. ⌜ now (numbers .exit) ≡ lent (now (numbers .entry)) (readRow row (now (s .entry))) ⌝ }
+fn fill(shape: Shape, s: &[u8], numbers: &mut [u32])
+    requires { ⌜ (length (now s) ≤ 4096) × (Walkable shape × Roomy (readShape shape (now s)) (length (now numbers))) ⌝ }
+    ensures { λ _. ⌜ now (numbers .exit) ≡ lent (now (numbers .entry)) (readShape shape (now (s .entry))) ⌝ }
 {
     let mut at: usize = 0;
     let mut n: usize = 0;
     let mut i: usize = 0;
     loop {
-        while i < row.size {
-            let piece = row.pieces[i];
+        while i < shape.size {
+            let piece = shape.pieces[i];
             let f = piece.0;
             let w = piece.1 as usize;
             let mut more = true;
@@ -77,14 +77,14 @@ fn fill(row: Row, s: &[u8], numbers: &mut [u32])
         if 8 * s.len() - at < 8 {
             return;
         }
-        i = row.again;
+        i = shape.again;
     }
 }
 
 // Reads a value of this kind into `numbers`, and answers how many numbers it is: all its fields in order, terminators and characters
 // included. Numbers after them do not change; a refusal changes none.
 pub fn pmd_read(kind: u32, value: &[u8], numbers: &mut [u32]) -> Answer
-    ensures { λ r. ⌜ Delivered (within (length (now (numbers .entry))) (reading kind (now (value .entry)))) (now (numbers .entry)) r (now (numbers .exit)) ⌝ }
+    ensures { λ r. ⌜ Delivered (within (length (now (numbers .entry))) (fieldsRead kind (now (value .entry)))) (now (numbers .entry)) r (now (numbers .exit)) ⌝ }
 {
     let Named::Known(known) = pmd::kind_of(kind) else {
         return pmd::refused(Refusal::Kind, 0);
@@ -92,14 +92,14 @@ pub fn pmd_read(kind: u32, value: &[u8], numbers: &mut [u32]) -> Answer
     if 4096 < value.len() {
         return pmd::refused(Refusal::Big, 0);
     }
-    let row = pmd::row_of(known);
-    let counted = count(row, value);
+    let shape = pmd::shape_of(known);
+    let counted = count(shape, value);
     let Answer::Done(n) = counted else {
         return counted;
     };
     if numbers.len() < n {
         return pmd::refused(Refusal::NoRoom, 0);
     }
-    fill(row, value, &mut *numbers);
+    fill(shape, value, &mut *numbers);
     Answer::Done(n)
 }

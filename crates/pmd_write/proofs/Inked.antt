@@ -1,10 +1,11 @@
 -- What the pen has written: the bits so far. A field goes on them, and closing the pen leaves the bytes that they are packed to.
-use Prim.Native.Nat.{ℕ, _+_, _*_, _<_}
-use mathlib.Core.Path.{_≡_, sym, ap, _∙_}
+use Prim.Native.Nat.{ℕ, _+_, _*_, _^_, _<_, _≤_}
+use mathlib.Core.Path.{_≡_, sym, ap, subst, _∙_}
+use mathlib.Core.Bool.{Bool, true}
 use mathlib.Core.List.{List, [], _++_}
 use native.Mathlib.Omega.{arith}
 use lib.Dec.{lit<}
-use lib.ListN.{length, take, replicate}
+use lib.ListN.{length, take, replicate, getD}
 use lib.Seq.{length-take-le}
 use Rattle.runs.specs.Digits.{digits, Bytes}
 use Rattle.runs.specs.Over.{Wrote}
@@ -15,10 +16,21 @@ use Rattle.bits.proofs.Penned.{pen-start, length-penned, pen-on, pen-moved, pen
 use Rattle.refusals.specs.Outcomes.{Outcome, fine, andThen}
 use Rattle.refusals.specs.declared.Answer.the-variants as A
 use Rattle.refusals.specs.Lent.{Delivered}
+use Rattle.pmd.specs.declared.Piece.{Piece}
+use Rattle.pmd.specs.declared.Shape.{Shape}
+use Rattle.pmd.specs.declared.Value.{Value}
+use Rattle.pmd.specs.Table.{typed}
+use Rattle.pmd.specs.Records.{goesOn}
 use Rattle.pmd.specs.Writing.{packed, packing}
+use Rattle.pmd.specs.Shapes.{asNumber, Roomy}
 use Rattle.refusals.proofs.Lent.{delivered-fine}
+use Rattle.pmd.proofs.Fields.{number-value}
+use Rattle.pmd.proofs.Records.{fits-lt}
 use Rattle.pmd.proofs.Packed.{packed-one}
+use Rattle.pmd.proofs.Walk.{Fields, fields-narrow}
 use Rattle.pmd.proofs.Frame.{Frame, frame-then, frame-over}
+use Rattle.pmd_write.specs.ByShape.{writeShape}
+use Rattle.pmd_write.proofs.Laid.{Run, due, due-on, due-there, due-good, due-room}
 
 pub record Inked (pen : Pen) (out bs : List ℕ) : Type 0 where
   pub ok : PenOk pen out
@@ -30,13 +42,29 @@ inked-begins out = record { ok = record { few = lit< tt; small = lit< tt; inside
 pub inked-long : {pen : Pen} {out bs : List ℕ} → Inked pen out bs → length bs ≡ 8 * pen .at + pen .count
 inked-long k = ap length (sym (k .wrote)) ∙ length-penned (k .ok)
 
--- a field more
-module _ {pen q : Pen} {w v : ℕ} {out after : List ℕ} (fits : PenFits pen w v out) (put : PutField pen w v out q after) where
-  pub inked-on : {bs : List ℕ} → penned pen out ≡ bs → Inked q after (bs ++ digits 2 w v)
-  inked-on e = record { ok = pen-ok fits put; wrote = pen-on fits put ∙ ap (λ (l : List ℕ). l ++ digits 2 w v) e }
+-- where a number is due, in a list whose bits have room: r, which went through its value, is put
+module _ {pen : Pen} {out : List ℕ} {shape : Shape} {vs : List ℕ} {n₀ n i room : ℕ} {p : Piece} {more : Bool} (f : Fields (Run (Inked pen out) shape vs n) shape i p n₀ n more) (goes : more ≡ true) (roomy : Roomy (writeShape shape vs) room) {x : Value} {r : ℕ} (ex : x ≡ typed (p .0) (getD vs n 0)) (er : r ≡ asNumber x) where
+  is : r ≡ getD vs n 0
+  is = er ∙ ap asNumber ex ∙ number-value (p .0) (getD vs n 0)
 
-  pub frame-put : Frame out (pen .at) after (q .at)
-  frame-put = record { since = omega (arith, pen-moved fits put, pen-ok fits put .few); long = pen-length fits put; rest = pen-rest fits put }
+  pub inked-fits : room ≤ 8 * length out → PenFits pen (p .1) r out
+  inked-fits l = record {
+    pen = due f goes .also .ok;
+    width = fields-narrow f .1;
+    value =
+        subst (λ (v : ℕ). v < 2 ^ p .1) (sym is) (subst (λ (m : ℕ). getD vs n 0 < 2 ^ m) (sym (f .wide)) (fits-lt (p .0) (getD vs n 0) (due-good f goes roomy)));
+    room = omega (arith, due-room f goes roomy, inked-long (due f goes .also));
+  }
+
+  pub inked-on : {q : Pen} {after : List ℕ} {next : Bool} → PenFits pen (p .1) r out → PutField pen (p .1) r out q after → next ≡ goesOn (p .2) r
+      → Fields (Run (Inked q after) shape vs (n + 1)) shape i p n₀ (n + 1) next
+  inked-on {q} {after} fits put e =
+      let bs = due f goes .bs in
+      let on : Inked q after (bs ++ digits 2 (p .1) r) = record { ok = pen-ok fits put; wrote = pen-on fits put ∙ ap (λ (l : List ℕ). l ++ digits 2 (p .1) r) (due f goes .also .wrote) } in
+      due-on f goes (due-there f goes roomy) (due-good f goes roomy) (e ∙ ap (goesOn (p .2)) is) (subst (λ (v : ℕ). Inked q after (bs ++ digits 2 (p .1) v)) is on)
+
+pub frame-put : {pen q : Pen} {w v : ℕ} {out after : List ℕ} → PenFits pen w v out → PutField pen w v out q after → Frame out (pen .at) after (q .at)
+frame-put fits put = record { since = omega (arith, pen-moved fits put, pen-ok fits put .few); long = pen-length fits put; rest = pen-rest fits put }
 
 -- the pen is closed
 pub inked-ends : {before : List ℕ} {n₀ : ℕ} {pen : Pen} {out bs closed : List ℕ} {r : ℕ} {o : Outcome (List ℕ)} → o ≡ fine bs → Inked pen out bs

@@ -2,18 +2,20 @@
 use bits::Pen;
 use pmd::Field;
 use pmd::Named;
-use pmd::Row;
+use pmd::Shape;
 use refusals::Answer;
 use refusals::Refusal;
 ghost use mathlib.Core.Path.{_≡_};
 ghost use mathlib.Core.Bool.{cond};
+ghost use Prim.Native.Nat.{_*_};
 ghost use lib.ListN.{length};
 ghost use Rattle.refusals.specs.Outcomes.{answered};
 ghost use Rattle.pmd.specs.Table.{widthOf};
 ghost use Rattle.refusals.specs.Lent.{within, Delivered};
-ghost use Rattle.pmd.specs.Writing.{packing, writing};
-ghost use Rattle.pmd.specs.Rows.{Walkable};
-ghost use Rattle.pmd_write.specs.ByRow.{writeRow, fits, weight, Roomy};
+ghost use Rattle.pmd.specs.Writing.{packing, fieldsWritten};
+ghost use Rattle.pmd.specs.Records.{fits};
+ghost use Rattle.pmd.specs.Shapes.{Walkable, Roomy};
+ghost use Rattle.pmd_write.specs.ByShape.{writeShape, weight};
 
 // Whether a field of w bits takes the number v.
 fn takes(f: Field, w: usize, v: u32) -> bool
@@ -32,19 +34,19 @@ fn choose(first: bool, a: usize, b: usize) -> usize
     if first { a } else { b }
 }
 
-// How many bits the numbers take as records of this row, or what is wrong with them. A list may be so long that no count holds its bits: one of
+// How many bits the numbers take as records of this shape, or what is wrong with them. A list may be so long that no count holds its bits: one of
 // more numbers than a value has bits, each of which takes a bit at least, is judged and not weighed.
-fn weigh(row: Row, numbers: &[u32]) -> Answer
-    requires { ⌜ Walkable row ⌝ }
-    ensures { λ r. ⌜ r ≡ answered (weight (now (numbers .entry))) (writeRow row (now (numbers .entry))) ⌝ }
+fn weigh(shape: Shape, numbers: &[u32]) -> Answer
+    requires { ⌜ Walkable shape ⌝ }
+    ensures { λ r. ⌜ r ≡ answered (weight (now (numbers .entry))) (writeShape shape (now (numbers .entry))) ⌝ }
 {
     let few = numbers.len() <= MOST_BITS;
     let mut total = choose(few, 0, MOST_BITS + 1);
     let mut n: usize = 0;
     let mut i: usize = 0;
     loop {
-        while i < row.size {
-            let piece = row.pieces[i];
+        while i < shape.size {
+            let piece = shape.pieces[i];
             let f = piece.0;
             let w = piece.1 as usize;
             let step = choose(few, w, 0);
@@ -66,14 +68,14 @@ fn weigh(row: Row, numbers: &[u32]) -> Answer
         if numbers.len() <= n {
             return Answer::Done(total);
         }
-        i = row.again;
+        i = shape.again;
     }
 }
 
 // Puts numbers that were weighed and have room, and answers how many bytes they are.
-fn put(row: Row, numbers: &[u32], out: &mut [u8]) -> Answer
-    requires { ⌜ Walkable row × Roomy (writeRow row (now numbers)) (length (now out)) ⌝ }
-    ensures { λ r. ⌜ Delivered (packing (writeRow row (now (numbers .entry)))) (now (out .entry)) r (now (out .exit)) ⌝ }
+fn put(shape: Shape, numbers: &[u32], out: &mut [u8]) -> Answer
+    requires { ⌜ Walkable shape × Roomy (writeShape shape (now numbers)) (8 * length (now out)) ⌝ }
+    ensures { λ r. ⌜ Delivered (packing (writeShape shape (now (numbers .entry)))) (now (out .entry)) r (now (out .exit)) ⌝ }
 {
     let mut pen = Pen {
         at: 0,
@@ -83,8 +85,8 @@ fn put(row: Row, numbers: &[u32], out: &mut [u8]) -> Answer
     let mut n: usize = 0;
     let mut i: usize = 0;
     loop {
-        while i < row.size {
-            let piece = row.pieces[i];
+        while i < shape.size {
+            let piece = shape.pieces[i];
             let f = piece.0;
             let w = piece.1 as usize;
             let mut more = true;
@@ -99,25 +101,25 @@ fn put(row: Row, numbers: &[u32], out: &mut [u8]) -> Answer
         if numbers.len() <= n {
             return Answer::Done(bits::close_pen(&mut *out, pen));
         }
-        i = row.again;
+        i = shape.again;
     }
 }
 
 // Writes the numbers as a value of this kind into `out`, and answers how many bytes it is. Bytes after it do not change; a refusal
 // changes none.
 pub fn pmd_write(kind: u32, numbers: &[u32], out: &mut [u8]) -> Answer
-    ensures { λ r. ⌜ Delivered (within (length (now (out .entry))) (writing kind (now (numbers .entry)))) (now (out .entry)) r (now (out .exit)) ⌝ }
+    ensures { λ r. ⌜ Delivered (within (length (now (out .entry))) (fieldsWritten kind (now (numbers .entry)))) (now (out .entry)) r (now (out .exit)) ⌝ }
 {
     let Named::Known(known) = pmd::kind_of(kind) else {
         return pmd::refused(Refusal::Kind, 0);
     };
-    let row = pmd::row_of(known);
-    let weighed = weigh(row, numbers);
+    let shape = pmd::shape_of(known);
+    let weighed = weigh(shape, numbers);
     let Answer::Done(total) = weighed else {
         return weighed;
     };
     if MOST_BITS < total || out.len() < (total + 7) / 8 {
         return pmd::refused(Refusal::NoRoom, 0);
     }
-    put(row, numbers, &mut *out)
+    put(shape, numbers, &mut *out)
 }

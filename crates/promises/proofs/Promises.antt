@@ -50,7 +50,7 @@ use Rattle.scrub_kept.proofs.Demand3 as demand
 use Rattle.scrub.specs.Scrubs.{Scrubs}
 use Rattle.scrub.proofs.One as scrubs
 use Rattle.pmd.specs.Reading as pmd
-use Rattle.pmd.specs.Writing.{writing}
+use Rattle.pmd.specs.Writing.{fieldsWritten}
 use Rattle.refusals.specs.Lent.{within, Delivered}
 use Rattle.pmd.specs.Gain.{levelOf}
 use Rattle.pmd.specs.declared.Level.{Level}
@@ -191,22 +191,22 @@ rest-cleared sheet s {before} n x done = ap (drop n) (x .buffer) ∙ demand.rest
 -- PMD VALUES
 
 -- Writing the fields that were read from an accepted value gives that value back, for every kind.
-pub read-then-write : (kind : ℕ) (s xs : List ℕ) → Bytes s → pmd.reading kind s ≡ fine xs → writing kind xs ≡ fine s
+pub read-then-write : (kind : ℕ) (s xs : List ℕ) → Bytes s → pmd.fieldsRead kind s ≡ fine xs → fieldsWritten kind xs ≡ fine s
 read-then-write = trips.read-then-write
 
 -- Reading the value that a list of fields was written as gives that list back, for every kind.
-pub write-then-read : (kind : ℕ) (s xs : List ℕ) → writing kind xs ≡ fine s → pmd.reading kind s ≡ fine xs
+pub write-then-read : (kind : ℕ) (s xs : List ℕ) → fieldsWritten kind xs ≡ fine s → pmd.fieldsRead kind s ≡ fine xs
 write-then-read = trips.write-then-read
 
 -- Two outcomes of `pmd_read` on the same kind, value and numbers coincide, the numbers included; so do two of `pmd_write`, the buffer included, and
 -- two levels of a gain.
 pub pmd-read-one : (kind : ℕ) (value before us vs : List ℕ) (a b : Answer)
-    → Delivered (within (length before) (pmd.reading kind value)) before a us → Delivered (within (length before) (pmd.reading kind value)) before b vs
+    → Delivered (within (length before) (pmd.fieldsRead kind value)) before a us → Delivered (within (length before) (pmd.fieldsRead kind value)) before b vs
     → (a ≡ b) × (us ≡ vs)
 pmd-read-one = pmd-reads.pmd-read-one
 
 pub pmd-write-one : (kind : ℕ) (numbers before us vs : List ℕ) (a b : Answer)
-    → Delivered (within (length before) (writing kind numbers)) before a us → Delivered (within (length before) (writing kind numbers)) before b vs
+    → Delivered (within (length before) (fieldsWritten kind numbers)) before a us → Delivered (within (length before) (fieldsWritten kind numbers)) before b vs
     → (a ≡ b) × (us ≡ vs)
 pmd-write-one = pmd-writes.pmd-write-one
 
@@ -228,12 +228,12 @@ pub bw-scrub-one : (sheet pack before us vs : List ℕ) (a b : Told)
 bw-scrub-one = exports.bw-scrub-one
 
 pub bw-pmd-read-one : (kind : ℕ) (value before us vs : List ℕ) (a b : Told)
-    → Given (within (length before) (pmd.reading kind value)) before a us → Given (within (length before) (pmd.reading kind value)) before b vs
+    → Given (within (length before) (pmd.fieldsRead kind value)) before a us → Given (within (length before) (pmd.fieldsRead kind value)) before b vs
     → (a ≡ b) × (us ≡ vs)
 bw-pmd-read-one = exports.bw-pmd-read-one
 
 pub bw-pmd-write-one : (kind : ℕ) (numbers before us vs : List ℕ) (a b : Told)
-    → Given (within (length before) (writing kind numbers)) before a us → Given (within (length before) (writing kind numbers)) before b vs
+    → Given (within (length before) (fieldsWritten kind numbers)) before a us → Given (within (length before) (fieldsWritten kind numbers)) before b vs
     → (a ≡ b) × (us ≡ vs)
 bw-pmd-write-one = exports.bw-pmd-write-one
 

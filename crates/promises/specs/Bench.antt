@@ -26,7 +26,7 @@ saidBy s = andThen (reading s) (λ r. fine (meant s r))
 
 abbrev pub LineHolds : Line → Type 0
 LineHolds (pack rest expected) = saidBy (key ++ rest) ≡ expected
-LineHolds (value kind s expected) = pmd.reading kind s ≡ expected
+LineHolds (value kind s expected) = pmd.fieldsRead kind s ≡ expected
 LineHolds (gain g expected) = levelOf g ≡ expected
 
 unfoldable pub All : List Line → Type 0

@@ -1,79 +1,73 @@
 -- `pmd_read::pmd_read` meets its contract: each return by what is delivered there.
+use mathlib.Core.Path.{_≡_, _∙_}
 use borrow.Author.Needs.{needs}
-use denote.Ref.{now}
-use Rattle.pmd_read.proofs.Answers.{read-unknown, read-big, read-refused, read-noroom, read-roomy, read-done}
+use lib.ListN.{length}
+use Rattle.refusals.proofs.Lent.{refused-was}
+use Rattle.pmd.specs.Reading.{fieldsRead}
+use Rattle.pmd.proofs.Answers.{delivers-none}
+use Rattle.pmd_read.specs.ByShape.{readShape}
+use Rattle.pmd_read.proofs.Answers.{read-unknown, read-big, read-shape, counted-noroom, counted-roomy, counted-all}
 use Rattle.pmd_read.proofs.pmd_read.Statement.{statement}
 use Rattle.pmd_read.proofs.pmd_read.Tie as tie
 
-kind-of-requires : tie.Need-kind-of-requires
-kind-of-requires c κs = search needs
+-- where the call began, as the kind is known and as the value was counted
+abbrev start : tie.After-kind-of → tie.Start
+start c = c .before .before .before
 
-enum-known-known : tie.Need-enum-known-known
-enum-known-known c = search needs
+abbrev begin : tie.After-count → tie.Start
+begin c = c .before .before .before .before .before .before .before .before .before
 
-enum-told : tie.Need-enum-told
-enum-told c = search needs
-
-refused-requires : tie.Need-refused-requires
-refused-requires c κs = search needs
+-- the value was counted as its kind asks
+by-shape : (c : tie.After-count) → fieldsRead (begin c .args .kind) (begin c .args .value .now) ≡ readShape (c .before .shape-of .result) (begin c .args .value .now)
+by-shape c =
+    let a = begin c .args in
+    read-shape (a .kind) (a .value .now) (c .before .before .before .before .before .before .kind-of .ensures) (c .before .before .before .before .known .given .1) (c .before .before .if1 .left) (c .before .shape-of .ensures)
 
 returns : tie.Need-returns
-returns c = let a = c .before .before .before .before .before .before .args in read-unknown (a .kind) (now (a .value)) (now (a .numbers)) (c .before .before .before .kind-of .ensures) (c .before .enum-told .given .1) (c .refused .ensures)
-
-refused-requires-2 : tie.Need-refused-requires-2
-refused-requires-2 c κs = search needs
+returns c = let h = c .before .before .before in delivers-none (read-unknown (start h .args .kind) (start h .args .value .now) (h .kind-of .ensures) (c .before .enum-told .given .1)) (c .refused .ensures)
 
 returns-2 : tie.Need-returns-2
-returns-2 c = let a = c .before .before .before .before .before .before .before .before .args in read-big (a .kind) (now (a .value)) (now (a .numbers)) (c .before .before .before .before .before .kind-of .ensures) (c .before .before .before .known .given .1) (c .before .if1 .taken) (c .refused2 .ensures)
-
-row-of-requires : tie.Need-row-of-requires
-row-of-requires c κs = search needs
-
-count-requires : tie.Need-count-requires
-count-requires c κs = search needs
-
-enum-known-counted : tie.Need-enum-known-counted
-enum-known-counted c = search needs
-
-enum-told-2 : tie.Need-enum-told-2
-enum-told-2 c = search needs
+returns-2 c =
+    let h = c .before .before .before .before .before in
+    delivers-none (read-big (start h .args .kind) (start h .args .value .now) (h .kind-of .ensures) (c .before .before .before .known .given .1) (c .before .if1 .taken)) (c .refused2 .ensures)
 
 returns-3 : tie.Need-returns-3
-returns-3 c = let a = c .before .before .before .before .before .before .before .before .before .before .before .args in read-refused (a .kind) (now (a .value)) (now (a .numbers)) (c .before .before .before .before .before .before .before .before .kind-of .ensures) (c .before .before .before .before .before .before .known .given .1) (c .before .before .before .before .if1 .left) (c .before .before .before .row-of .ensures) (c .before .before .count .ensures) (c .enum-told2 .given .1)
-
-refused-requires-3 : tie.Need-refused-requires-3
-refused-requires-3 c κs = search needs
+returns-3 c =
+    let h = c .before .before in
+    let told = c .enum-told2 .given .1 in
+    delivers-none (by-shape h ∙ refused-was length (h .count .ensures) told) told
 
 returns-4 : tie.Need-returns-4
-returns-4 c = let a = c .before .before .before .before .before .before .before .before .before .before .before .before .before .before .args in read-noroom (a .kind) (now (a .value)) (now (a .numbers)) (c .before .before .before .before .before .before .before .before .before .before .before .kind-of .ensures) (c .before .before .before .before .before .before .before .before .before .known .given .1) (c .before .before .before .before .before .before .before .if1 .left) (c .before .before .before .before .before .before .row-of .ensures) (c .before .before .before .before .before .count .ensures) (c .before .before .before .counted .given .1) (c .before .if2 .taken) (c .refused3 .ensures)
+returns-4 c = let h = c .before .before .before .before .before in counted-noroom (by-shape h) (h .count .ensures) (c .before .before .before .counted .given .1) (c .before .if2 .taken) (c .refused3 .ensures)
 
 fill-requires : tie.Need-fill-requires
-fill-requires c κs = (c .before .before .before .before .before .before .before .if1 .left, (c .before .before .before .before .before .before .row-of .ensures .walkable, (let a = c .before .before .before .before .before .before .before .before .before .before .before .before .before .before .args in read-roomy (a .kind) (now (a .value)) (now (a .numbers)) (c .before .before .before .before .before .before .before .before .before .before .before .kind-of .ensures) (c .before .before .before .before .before .before .before .before .before .known .given .1) (c .before .before .before .before .before .before .before .if1 .left) (c .before .before .before .before .before .before .row-of .ensures) (c .before .before .before .before .before .count .ensures) (c .before .before .before .counted .given .1) (c .before .if2 .left))))
-
-same-length : tie.Need-same-length
-same-length c = search needs
+fill-requires c κs =
+    let h = c .before .before .before .before .before in
+    (h .before .before .if1 .left, (h .before .shape-of .ensures .walkable, counted-roomy (by-shape h) (h .count .ensures) (c .before .before .before .counted .given .1) _ (c .before .if2 .left)))
 
 returns-5 : tie.Need-returns-5
-returns-5 c = let a = c .before .before .before .before .before .before .before .before .before .before .before .before .before .before .before .before .before .args in read-done (a .kind) (now (a .value)) (now (a .numbers)) (c .before .before .before .before .before .before .before .before .before .before .before .before .before .before .kind-of .ensures) (c .before .before .before .before .before .before .before .before .before .before .before .before .known .given .1) (c .before .before .before .before .before .before .before .before .before .before .if1 .left) (c .before .before .before .before .before .before .before .before .before .row-of .ensures) (c .before .before .before .before .before .before .before .before .count .ensures) (c .before .before .before .before .before .before .counted .given .1) (c .before .before .before .before .if2 .left) (c .before .before .fill .ensures)
+returns-5 c =
+    let h = c .before .before .before .before .before .before .before .before in
+    counted-all (by-shape h) (h .count .ensures) (c .before .before .before .before .before .before .counted .given .1) (c .before .before .before .before .if2 .left) (c .before .before .fill .ensures)
 
 pub pmd-read-spec : {M : Type 1} → statement M
 pmd-read-spec =
     tie.close
     (tie.spec
-    kind-of-requires
-    enum-known-known
-    enum-told
-    refused-requires
+    (λ c κs. search needs)
+    (λ c. search needs)
+    (λ c. search needs)
+    (λ c κs. search needs)
     returns
-    refused-requires-2
+    (λ c κs. search needs)
     returns-2
-    row-of-requires
-    count-requires
-    enum-known-counted
-    enum-told-2
+    (λ c κs. search needs)
+    (λ c κs. search needs)
+    (λ c. search needs)
+    (λ c. search needs)
     returns-3
-    refused-requires-3
+    (λ c κs. search needs)
     returns-4
     fill-requires
-    same-length
+    (λ c. search needs)
     returns-5)

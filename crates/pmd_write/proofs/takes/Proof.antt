@@ -19,18 +19,6 @@ narrow f e = subst (λ (n : ℕ). n ≤ 15) (sym e) (width-some f .1)
 bound : {w : ℕ} (f : Field) → w ≡ widthOf f → 1 * 2 ^ w % 2 ^ 32 ≡ 2 ^ widthOf f
 bound {w} f e = let h = narrow f e in one-shifted w (omega arith) ∙ ap (λ (n : ℕ). 2 ^ n) e
 
-cast-if1 : tie.Need-cast-if1
-cast-if1 c = let h = narrow (c .args .f) (c .pre) in omega arith
-
-shl-if1 : tie.Need-shl-if1
-shl-if1 c = let h = narrow (c .args .f) (c .pre) in omega arith
-
-value-of-requires : tie.Need-value-of-requires
-value-of-requires c κs = search needs
-
-holds-requires : tie.Need-holds-requires
-holds-requires c κs = search needs
-
 returns : tie.Need-returns
 returns c = c .holds .ensures ∙ ap mayHold (c .before .value-of .ensures) ∙ simp (ap (ltb (c .before .before .before .args .v)) (sym (bound (c .before .before .before .args .f) (c .before .before .before .pre))) ∙ lt-ltb _ _ (c .before .before .if1 .taken))
 
@@ -39,4 +27,4 @@ returns-2 c = le-ltb _ _ (c .if1 .left) ∙ simp (ap (ltb (c .before .args .v)) 
 
 pub takes-spec : {M : Type 1} → statement M
 takes-spec =
-    tie.close (tie.spec cast-if1 shl-if1 value-of-requires holds-requires returns returns-2)
+    tie.close (tie.spec (λ c. let h = narrow (c .args .f) (c .pre) in omega arith) (λ c. let h = narrow (c .args .f) (c .pre) in omega arith) (λ c κs. search needs) (λ c κs. search needs) returns returns-2)

@@ -15,13 +15,9 @@ use Rattle.runs.proofs.Cases.{absurd-eq}
 use Rattle.vectors_pmd.proofs.signed.Statement.{statement}
 use Rattle.vectors_pmd.proofs.signed.Tie as tie
 
-below-fits : (n : ℤ) → ltZ n (pos 0) ≡ true → SFits w32 n → SFits w64 (pos 0 -ℤ n)
-below-fits (pos k) e s = absurd (let z : k < 0 = ltb-true k 0 e in omega arith)
-below-fits (negsuc k) e s = sfits-of (omega (arith, s .sfits))
-
-below-above : (n : ℤ) → ltZ n (pos 0) ≡ true → T (nonNeg (pos 0 -ℤ n))
-below-above (pos k) e = absurd (let z : k < 0 = ltb-true k 0 e in omega arith)
-below-above (negsuc k) e = tt
+below-zero : (n : ℤ) → ltZ n (pos 0) ≡ true → SFits w32 n → SFits w64 (pos 0 -ℤ n) × T (nonNeg (pos 0 -ℤ n))
+below-zero (pos k) e s = absurd (let z : k < 0 = ltb-true k 0 e in omega arith)
+below-zero (negsuc k) e s = (sfits-of (omega (arith, s .sfits)), tt)
 
 not-below : (n : ℤ) → ltZ n (pos 0) ≡ false → T (nonNeg n)
 not-below (pos k) e = tt
@@ -40,7 +36,7 @@ module _ {n : ℤ} (s : SFits w32 n) where
     below = ap (λ (z : ℤ). ltZ z (pos 0)) (sym (toZ-ofZ s)) ∙ h
 
     less : SFits w64 (pos 0 -ℤ toZ w64 (ofZ w64 (toZ w32 (ofZ w32 n))))
-    less = subst (λ (z : ℤ). SFits w64 (pos 0 -ℤ z)) (sym as-read) (below-fits n below s)
+    less = subst (λ (z : ℤ). SFits w64 (pos 0 -ℤ z)) (sym as-read) (below-zero n below s .0)
 
     less-as-read : toZ w64 (ofZ w64 (pos 0 -ℤ toZ w64 (ofZ w64 (toZ w32 (ofZ w32 n))))) ≡ pos 0 -ℤ n
     less-as-read = toZ-ofZ less ∙ ap (λ (z : ℤ). pos 0 -ℤ z) as-read
@@ -48,7 +44,7 @@ module _ {n : ℤ} (s : SFits w32 n) where
     less-above : T (nonNeg (toZ w64 (ofZ w64 (pos 0 -ℤ toZ w64 (ofZ w64 (toZ w32 (ofZ w32 n)))))))
         × Fits w64 (natAbs (toZ w64 (ofZ w64 (pos 0 -ℤ toZ w64 (ofZ w64 (toZ w32 (ofZ w32 n)))))))
     less-above =
-        subst (λ (z : ℤ). T (nonNeg z) × Fits w64 (natAbs z)) (sym less-as-read) (below-above n below, fits-natAbs {w = w64} tt (below-fits n below s))
+        subst (λ (z : ℤ). T (nonNeg z) × Fits w64 (natAbs z)) (sym less-as-read) (below-zero n below s .1, fits-natAbs {w = w64} tt (below-zero n below s .0))
 
   above : ltZ (toZ w32 (ofZ w32 n)) (pos 0) ≡ false → T (nonNeg (toZ w32 (ofZ w32 n))) × Fits w64 (natAbs (toZ w32 (ofZ w32 n)))
   above h =

@@ -1,17 +1,17 @@
--- `pmd::row_of` meets its contract: each arm by the kind that the match found.
+-- `pmd::shape_of` meets its contract: each arm by the kind that the match found.
 use mathlib.Core.Path.{_≡_, sym, subst}
 use borrow.Author.Needs.{needs}
 use Rattle.pmd.specs.declared.Kind.{Kind}
-use Rattle.pmd.specs.declared.Row.{Row}
-use Rattle.pmd.specs.Rows.{RowFor}
-use Rattle.pmd.proofs.row_of.Statement.{statement}
-use Rattle.pmd.proofs.row_of.Tie as tie
+use Rattle.pmd.specs.declared.Shape.{Shape}
+use Rattle.pmd.specs.Shapes.{ShapeFor}
+use Rattle.pmd.proofs.shape_of.Statement.{statement}
+use Rattle.pmd.proofs.shape_of.Tie as tie
 
-found : {kind other : Kind} {row : Row} → kind ≡ other → RowFor other row → RowFor kind row
-found {kind} {other} {row} e h = subst (λ (k : Kind). RowFor k row) (sym e) h
+found : {kind other : Kind} {shape : Shape} → kind ≡ other → ShapeFor other shape → ShapeFor kind shape
+found {kind} {other} {shape} e h = subst (λ (k : Kind). ShapeFor k shape) (sym e) h
 
-pub row-of-spec : {M : Type 1} → statement M
-row-of-spec =
+pub shape-of-spec : {M : Type 1} → statement M
+shape-of-spec =
     tie.close
     (tie.spec
     (λ c. search needs)

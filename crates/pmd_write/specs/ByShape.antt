@@ -1,0 +1,17 @@
+-- The bits of numbers as records of a shape, and how many they are.
+use mathlib.Core.List.{List}
+use mathlib.Core.Bool.{cond}
+use Prim.Native.Nat.{ℕ}
+use lib.Dec.{leb}
+use lib.ListN.{length}
+use Rattle.refusals.specs.Outcomes.{Outcome}
+use Rattle.pmd.specs.Writing.{writeFrom}
+use Rattle.pmd.specs.declared.Shape.{Shape}
+use Rattle.pmd.specs.Shapes.{leftOf}
+
+abbrev pub writeShape : Shape → List ℕ → Outcome (List ℕ)
+writeShape shape vs = writeFrom (leftOf shape (shape .again)) (leftOf shape 0) vs 0
+
+-- how many bits a list of numbers takes; one more than a value has, for a list of more numbers than that
+abbrev pub weight : List ℕ → List ℕ → ℕ
+weight vs bs = cond (leb (length vs) 32768) (length bs) 32769
