@@ -33,11 +33,11 @@ flatten-those test [] = refl
 flatten-those test (g ∷ gs) = ap (λ (t : List Placed). those test g ++ t) (flatten-those test gs) ∙ sym (those-append test g (flatten gs))
 
 module _ (sheet : Sheet) where
-  pub kept-offset : (k : Said) → (kept sheet k) .offset ≡ k .offset
+  kept-offset : (k : Said) → (kept sheet k) .offset ≡ k .offset
   unfolding kept
   kept-offset k = refl
 
-  pub kept-items : (k : Said) → (kept sheet k) .items ≡ keptItems sheet (k .items)
+  kept-items : (k : Said) → (kept sheet k) .items ≡ keptItems sheet (k .items)
   unfolding kept
   kept-items k = refl
 
@@ -153,7 +153,7 @@ item-of (sync o d (x ∷ xs)) (sync p c (y ∷ ys)) h g e =
     let m : x ∷ xs ≡ y ∷ ys = sym (payloads-of o d (x ∷ xs)) ∙ ap payloads e ∙ payloads-of p c (y ∷ ys) in
     cc
 
-pub groups-tell : (xs ys : List SaidItem) → Each HasPayload xs → Each HasPayload ys → grouped xs ≡ grouped ys → xs ≡ ys
+groups-tell : (xs ys : List SaidItem) → Each HasPayload xs → Each HasPayload ys → grouped xs ≡ grouped ys → xs ≡ ys
 groups-tell [] [] h g e = refl
 groups-tell [] (y ∷ ys) h g e = absurd-eq (cc)
 groups-tell (x ∷ xs) [] h g e = absurd-eq (cc)
