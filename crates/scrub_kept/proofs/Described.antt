@@ -21,7 +21,7 @@ use Rattle.pack_layout.specs.Layout.{noConfig, Entry, crc, elementsBytes, group
 use Rattle.pack_layout.specs.Well.{FormFits, WellElement, WellElements, WellChunks, WellEntries, WellConfig, WellCrc, crcSize, chunksCount, WellFormed}
 use Rattle.pack_layout.proofs.Entries.{entryLabels}
 use Rattle.runs.specs.Those.{Each}
-use Rattle.scrub_kept.specs.Written.{numbersIn, labelsIn, assigned, free, entries, tagFor, asElement, asChunk, asConfig, entriesOf, firstOf, chunksOf, contentOf, valueSize, described, written}
+use Rattle.scrub_kept.specs.Written.{numbersIn, labelsIn, assigned, free, entries, tagFor, asElement, asChunk, asConfig, entriesOf, configFor, chunksOf, contentOf, valueSize, described, written}
 use Rattle.runs.proofs.Those.{each-map, each-both, each-member, each-append, each-left, each-right}
 use Rattle.scrub_kept.proofs.Listed.{among-here, listed-each}
 use Rattle.scrub_kept.proofs.Entries.{assigned-labels, assigned-length, assigned-new, assigned-apart, Reaches, assigned-range, label-tag, number-means, label-means}
@@ -233,7 +233,7 @@ described-well ls k s h =
     let few : length ns ≤ 64 = omega (arith, names-total (k .items), s .count) in
     let sayable : Each (SayableName ls) ns = items-named ls (k .items) (s .items) in
     let size : valueSize k ≤ packCap = omega (arith, written-length k, h) in
-    let parts = length-append (configBytes (firstOf k)) (chunksBytes (chunksOf k)) in
+    let parts = length-append (configBytes (configFor k)) (chunksBytes (chunksOf k)) in
     record {
       fits = subst (λ (n : ℕ). FormFits (shortest (valueSize k)) (length (contentOf k) + n)) (sym crc-size) (fits-short (valueSize k) size);
       opening =

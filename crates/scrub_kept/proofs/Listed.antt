@@ -21,10 +21,6 @@ pub among-more : (n x : ℕ) (xs : List ℕ) → among n xs ≡ true → among n
 unfolding among
 among-more n x xs h = split (eqb x n) (λ e. rw e) (λ e. rw e h)
 
-pub among-rest : (n x : ℕ) (xs : List ℕ) → eqb x n ≡ false → among n (x ∷ xs) ≡ true → among n xs ≡ true
-unfolding among
-among-rest n x xs e h = simp e at h
-
 -- a number that is not among a list is not its head, and not among the rest
 pub among-none : (n x : ℕ) (xs : List ℕ) → among n (x ∷ xs) ≡ false → (eqb x n ≡ false) × (among n xs ≡ false)
 unfolding among

@@ -18,21 +18,6 @@ loop-holds c = finding-begins _ _ _ (c .before .pre)
 be32-requires : tie.Need-be32-requires Inv-loop μ-loop
 be32-requires c κs = omega (arith, c .before .loop .inv .room)
 
-cast-found : tie.Need-cast-found Inv-loop μ-loop
-cast-found c = search needs
-
-array-write-found : tie.Need-array-write-found Inv-loop μ-loop
-array-write-found c = omega arith
-
-sub-left : tie.Need-sub-left Inv-loop μ-loop
-sub-left c = omega arith
-
-add-next : tie.Need-add-next Inv-loop μ-loop
-add-next c = omega arith
-
-loop-less : tie.Need-loop-less Inv-loop μ-loop
-loop-less c = omega arith
-
 loop-again : tie.Need-loop-again Inv-loop μ-loop
 loop-again c =
     let b = c .before in
@@ -53,10 +38,10 @@ short-among-spec =
     μ-loop
     loop-holds
     be32-requires
-    cast-found
-    array-write-found
-    sub-left
-    add-next
-    loop-less
+    (λ c. search needs)
+    (λ c. omega arith)
+    (λ c. omega arith)
+    (λ c. omega arith)
+    (λ c. omega arith)
     loop-again
     returns)
