@@ -40,27 +40,30 @@ files() {
     local file
     while read -r file; do
         if grep -qxF -- "$file" <<<"$1"; then told yes; else told no "nothing needs $file"; fi
-    done < <(ls crates/*/specs/*.antt crates/*/proofs/*.antt | grep -v '/Lib\.antt$')
+    done < <(find crates -mindepth 3 -maxdepth 3 \( -path '*/specs/*' -o -path '*/proofs/*' \) -name '*.antt' ! -name Lib.antt | sort)
 }
 
-# the laws that proofs/ give to others: used beside their own lines, or on a page.
+# the laws that proofs/ give to others: each is named on a line that is not its own, or on a page.
 laws() {
-    local file name
-    while read -r file name; do
-        told no "nothing uses $name of $file"
-    done < <(awk '
+    local used file name
+    while read -r used file name; do
+        if [[ $used == yes ]] || grep -qF -- "\`$name\`" "${pages[@]}"; then told yes; else told no "nothing uses $name of $file"; fi
+    done < <(find crates \( -name '*.antt' -o -name '*.rt' \) -print0 | xargs -0 awk '
         { line = $0; sub(/--.*/, "", line); own = "" }
-        match(line, /^ *(abbrev |unfoldable )?(pub )?(record |data )?[^ ]+ /) {
-            n = split(line, w, " "); k = 1
-            while (w[k] == "abbrev" || w[k] == "unfoldable" || w[k] == "pub" || w[k] == "record" || w[k] == "data") k++
+        match(line, /^ *[^ ]+ /) {
+            n = split(line, w, " "); k = 1; public = 0
+            while (w[k] ~ /^(abbrev|unfoldable|pub|record|data)$/) if (w[k++] == "pub") public = 1
             own = w[k]
-            if (FILENAME ~ /\/proofs\/[A-Za-z0-9_]+\.antt$/ && FILENAME !~ /\/promises\// && line ~ /^ *((abbrev|unfoldable) )?pub / && w[k] != "mod") given[w[k]] = FILENAME
+            if (public && own != "mod" && FILENAME ~ /\/proofs\/[A-Za-z0-9_]+\.antt$/ && FILENAME !~ /\/promises\//) given[own] = FILENAME
         }
-        { gsub(/[(){}.,;«»λ`]/, " ", line); n = split(line, w, " "); for (k = 1; k <= n; k++) if (w[k] != own) used[w[k]] = 1; else if (!((FILENAME, own) in told)) { told[FILENAME, own] = 1; tellers[own]++ } }
-        END { for (name in given) if (!(name in used) && tellers[name] < 2) print given[name], name }
-    ' $(find crates -name '*.antt' -not -path '*/target/*') crates/*/src/*.rt | sort |
-        while read -r file name; do grep -qF -- "\`$name\`" "${pages[@]}" || echo "$file $name"; done)
-    told yes
+        {
+            gsub(/[(){}.,;«»λ]/, " ", line); n = split(line, w, " ")
+            for (k = 1; k <= n; k++) {
+                if (w[k] != own) used[w[k]] = 1
+                else if (!((FILENAME, own) in told)) { told[FILENAME, own] = 1; tellers[own]++ }
+            }
+        }
+        END { for (name in given) print (name in used || tellers[name] > 1) ? "yes" : "no", given[name], name }' | sort -k2)
 }
 
 files "$(reached)"

@@ -152,8 +152,8 @@ module _ (sheet s : List ℕ) (sh : Sheet) (r : Read) (named : sheetOf sheet ≡
       → (a ≡ b) × ((n : ℕ) → a ≡ A.Done n → us ≡ vs)
   same-kept-same-buffer t q {before} {other} also offsets items lengths x y =
       let same = scrubbing.scrub-same sheet s t sh r q (length before) named accepted also offsets items ∙ ap (scrubbed sheet t) lengths in
-      let kept-none = scrubbing.done-same before other (scrubbed sheet s (length before)) lengths in
-      (x .answer ∙ ap (answered length) same ∙ sym (y .answer), λ n done. x .buffer ∙ kept-none n (sym (x .answer) ∙ done) ∙ ap (leaves other) same ∙ sym (y .buffer))
+      let cleared = scrubbing.done-same before other (scrubbed sheet s (length before)) lengths in
+      (x .answer ∙ ap (answered length) same ∙ sym (y .answer), λ n done. x .buffer ∙ cleared n (sym (x .answer) ∙ done) ∙ ap (leaves other) same ∙ sym (y .buffer))
 
   -- Changing, adding or removing payloads that the sheet does not name, tag tables or length forms of an accepted pack changes nothing: two packs
   -- that have, item by item, the same payloads that the sheet names are answered the same and leave the same in one buffer.
@@ -219,12 +219,12 @@ module _ (k : Said) where
   pub mapped-only : Each (λ (m : Entry). List·Memᴰ (label (m .stands)) (names (k .items))) (entriesLaid ((described k) .first))
   mapped-only = rw described-entries (mappings.entries-only (names (k .items)))
 
-  -- Labels are mapped as `labelsIn` lists them.
+  -- Labels are mapped as `labelsIn` lists them, in order of first appearance.
   pub mapped-in-order : map (λ (m : Entry). m .stands) (entriesLaid ((described k) .first)) ≡ labelsIn [] (names (k .items))
   mapped-in-order = rw described-entries (mappings.entries-order (names (k .items)))
 
-  -- With at most 64 kept payloads, and no accepted pack has more, every label gets a tag from 64 to 127 that is no payload's number name, and no
-  -- tag is given twice.
+  -- With at most 64 kept payloads, and of an accepted pack no more are kept, every label gets a tag from 64 to 127 that is no payload's number name,
+  -- and no tag is given twice.
   pub new-tags : length (names (k .items)) ≤ 64
       → Each (λ (m : Entry). (64 ≤ m .tag) × (m .tag ≤ 127) × (among (m .tag) (numbersIn (names (k .items))) ≡ false)) (entriesLaid ((described k) .first))
       × List·Nodup (map (λ (m : Entry). m .tag) (entriesLaid ((described k) .first)))
@@ -234,11 +234,11 @@ module _ (k : Said) where
   pub config-needed : k .offset ≡ 0 → labelsIn [] (names (k .items)) ≡ [] → (described k) .first ≡ noConfig
   config-needed none unlabelled = described-bare k none (mappings.entries-none (names (k .items)) unlabelled)
 
--- `labelsIn` lists labels in order of first appearance: a further name brings its label to the end, unless the label is there or the name is a number.
+-- That order: a further name brings its label to the end, unless the label is there or the name is a number.
 pub first-appearance : (ns : List SaidName) (l : List ℕ) (t : ℕ)
     → (labelsIn [] (ns ++ (label l ∷ [])) ≡ cond (listed l (labelsIn [] ns)) (labelsIn [] ns) (labelsIn [] ns ++ (l ∷ [])))
     × (labelsIn [] (ns ++ (number t ∷ [])) ≡ labelsIn [] ns)
-first-appearance ns l t = (labels.label-last ns l, labels.number-last [] ns t)
+first-appearance ns l t = (labels.label-last ns l, labels.number-last ns t)
 
 -- A refusal changes no byte of the buffer.
 pub refused-unchanged : (sheet s : List ℕ) {before after : List ℕ} {a : Answer} (why : Refusal) (place : ℕ) → Scrubs sheet s before a after

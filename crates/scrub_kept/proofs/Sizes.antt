@@ -36,11 +36,8 @@ pub written-bytes : (k : Said) → written k ≡ checkedBytes k ++ digits 256 4 
 unfolding written laid described
 written-bytes k = ap (λ (l : List ℕ). l ++ digits 256 4 (crcOf l)) (before-is k)
 
-key-length : length key ≡ 16
-unfolding key
-key-length = refl
-
 pub written-length : (k : Said) → length (written k) ≡ 16 + length (lengthBytes (valueSize k)) + valueSize k
+unfolding key
 written-length k =
     let c = contentOf k ++ (3 ∷ 4 ∷ []) in
     let n = lengthBytes (valueSize k) in
@@ -53,7 +50,6 @@ written-length k =
       length-append key (n ++ c),
       length-append n c,
       length-append (contentOf k) (3 ∷ 4 ∷ []),
-      key-length,
     )
 
 -- the value of an element, and what follows it, are no longer than both

@@ -12,12 +12,8 @@ use Rattle.runs.specs.Same.{among}
 use Rattle.runs.proofs.Cases.{split}
 use Rattle.numbers.specs.Big.{bigAt}
 use Rattle.scrub_kept.specs.Sheet.{numbersAt}
+use Rattle.scrub_kept.proofs.Listed.{or-moved}
 use Rattle.scrub_sheet.proofs.Runs.{number-sought}
-
-or-moved : (b f r : Bool) → cond b true f || r ≡ f || cond b true r
-or-moved true true r = refl
-or-moved true false r = refl
-or-moved false f r = refl
 
 set-found : (found : List Bool) (x n : ℕ) → x < length found → getD (set found x true) n false ≡ cond (eqb x n) true (getD found n false)
 set-found found x n h =

@@ -12,23 +12,14 @@ Inv-loop s at count found₀ left₀ next₀ found left next = Finding s at coun
 abbrev μ-loop : tie.MeasureT-loop
 μ-loop s at count found₀ left₀ next₀ found left next = left
 
-loop-holds : tie.Need-loop-holds Inv-loop μ-loop
-loop-holds c = finding-begins _ _ _ (c .before .pre)
-
-be32-requires : tie.Need-be32-requires Inv-loop μ-loop
-be32-requires c κs = omega (arith, c .before .loop .inv .room)
-
 loop-again : tie.Need-loop-again Inv-loop μ-loop
 loop-again c =
-    let b = c .before in
-    let l = b .before .before .loop in
+    let fetched = c .before in
+    let turn = fetched .before .before .loop in
     ⊎-elim
-    (λ w. finding-short (l .inv) (omega arith) _ (b .be32 .ensures) (w .0 .taken) _ (w .1))
-    (λ w. finding-long (l .inv) (omega arith) _ (b .be32 .ensures) (w .0 .left) _ (w .1))
+    (λ w. finding-short (turn .inv) (omega arith) _ (fetched .be32 .ensures) (w .0 .taken) _ (w .1))
+    (λ w. finding-long (turn .inv) (omega arith) _ (fetched .be32 .ensures) (w .0 .left) _ (w .1))
     (c .if1 .came)
-
-returns : tie.Need-returns Inv-loop μ-loop
-returns c = finding-ends (c .before .loop .inv) (c .loop-test .left)
 
 pub short-among-spec : {M : Type 1} → statement M
 short-among-spec =
@@ -36,12 +27,12 @@ short-among-spec =
     (tie.spec
     Inv-loop
     μ-loop
-    loop-holds
-    be32-requires
+    (λ c. finding-begins _ _ _ (c .before .pre))
+    (λ c κs. omega (arith, c .before .loop .inv .room))
     (λ c. search needs)
     (λ c. omega arith)
     (λ c. omega arith)
     (λ c. omega arith)
     (λ c. omega arith)
     loop-again
-    returns)
+    (λ c. finding-ends (c .before .loop .inv) (c .loop-test .left)))
