@@ -2,16 +2,18 @@
 -- cites. A pack, a sheet, a value and a lent buffer are lists of bytes; `Bytes s` says that each element of s is below 256. The definitions that
 -- the statements use stand in the specs/ folders, and the contract of each function says that it computes them.
 use mathlib.Core.Path.{_≡_, sym, ap, subst, _∙_}
-use mathlib.Core.Bool.{true, false}
-use mathlib.Core.List.{List, _++_}
+use mathlib.Core.Bool.{true, false, cond}
+use mathlib.Core.List.{List, [], _∷_, _++_, map, List·Memᴰ, List·Nodup}
+use mathlib.Core.Logic.{_⊎_}
 use Prim.Native.Nat.{ℕ, _+_, _-_, _<_, _≤_, _^_}
 use lib.ListN.{length, take, drop, replicate}
 use Rattle.runs.specs.Digits.{Bytes, digits}
 use Rattle.runs.specs.Over.{Wrote}
-use Rattle.runs.specs.Same.{among}
-use Rattle.refusals.specs.Outcomes.{fine, answered}
+use Rattle.runs.specs.Same.{among, listed}
+use Rattle.refusals.specs.Outcomes.{fine, refused, answered}
 use Rattle.refusals.specs.Refusals.{numberOf}
 use Rattle.refusals.specs.declared.Refusal.{Refusal}
+use Rattle.refusals.specs.declared.Refusal.the-variants as R
 use Rattle.refusals.specs.declared.Answer.{Answer}
 use Rattle.refusals.specs.declared.Answer.the-variants as A
 use Rattle.refusals.proofs.Numbers as refusals
@@ -26,7 +28,8 @@ use Rattle.bits.proofs.Bits as bit-laws
 use Rattle.bits.proofs.Fields as fields
 use Rattle.crc.specs.Crc.{crcOf}
 use Rattle.crc.proofs.Serial as serial
-use Rattle.pack.specs.Said.{SaidItem}
+use Rattle.pack.specs.Fixed.{packCap}
+use Rattle.pack.specs.Said.{SaidName, label, number, SaidItem, Said, names}
 use Rattle.pack.specs.Reading.{Read, reading, checked}
 use Rattle.pack.specs.Slots.{shown}
 use Rattle.pack.specs.Meaning.{meant, valueOf, labelAt}
@@ -35,18 +38,25 @@ use Rattle.pack.specs.declared.Reading.{Reading}
 use Rattle.pack_read.proofs.One as reader
 use Rattle.pack_text.specs.Text.{listing}
 use Rattle.pack_text.proofs.One as listings
-use Rattle.pack_layout.specs.Layout.{Description}
+use Rattle.pack_layout.specs.Layout.{Entry, noConfig, entriesLaid, Description}
 use Rattle.pack_layout.specs.Well.{WellFormed}
 use Rattle.pack_layout.specs.Agrees.{Sound, Complete}
 use Rattle.pack_layout.proofs.Complete as complete
 use Rattle.pack_layout.proofs.Sound as sound
 use Rattle.runs.specs.Those.{those, Each}
+use Rattle.runs.proofs.Those.{those-pass}
 use Rattle.scrub_kept.specs.Sheet.{Sheet, sheetOf}
 use Rattle.scrub_kept.specs.Kept.{keptItems, kept}
 use Rattle.scrub_kept.specs.Placed.{Placed, grouped, placed, onSheet, HasPayload, namedBy}
-use Rattle.scrub_kept.specs.Written.{free}
+use Rattle.scrub_kept.specs.Written.{numbersIn, labelsIn, free, described, written}
 use Rattle.scrub_kept.specs.Scrubbed.{scrubbed, leaves, ReadsAs}
-use Rattle.scrub_kept.proofs.Demand3 as demand
+use Rattle.scrub_kept.proofs.Free as numbers
+use Rattle.scrub_kept.proofs.Labels as labels
+use Rattle.scrub_kept.proofs.Mappings as mappings
+use Rattle.scrub_kept.proofs.Described.{described-entries, described-bare}
+use Rattle.scrub_kept.proofs.Keeping as keeping
+use Rattle.scrub_kept.proofs.Scrubbing as scrubbing
+use Rattle.scrub_kept.proofs.ReadBack as back
 use Rattle.scrub.specs.Scrubs.{Scrubs}
 use Rattle.scrub.proofs.One as scrubs
 use Rattle.pmd.specs.Reading as pmd
@@ -143,8 +153,9 @@ module _ (sheet s : List ℕ) (sh : Sheet) (r : Read) (named : sheetOf sheet ≡
       → length before ≡ length other → Scrubs sheet s before a us → Scrubs sheet t other b vs
       → (a ≡ b) × ((n : ℕ) → a ≡ A.Done n → us ≡ vs)
   same-kept-same-buffer t q {before} {other} also offsets items lengths x y =
-      let same = demand.same-kept-same-buffer sheet s t sh r q before other named accepted also offsets items lengths in
-      (x .answer ∙ same .0 ∙ sym (y .answer), λ n done. x .buffer ∙ same .1 n (sym (x .answer) ∙ done) ∙ sym (y .buffer))
+      let same = scrubbing.scrub-same sheet s t sh r q (length before) named accepted also offsets items ∙ ap (scrubbed sheet t) lengths in
+      let cleared = scrubbing.done-same before other (scrubbed sheet s (length before)) lengths in
+      (x .answer ∙ ap (answered length) same ∙ sym (y .answer), λ n done. x .buffer ∙ cleared n (sym (x .answer) ∙ done) ∙ ap (leaves other) same ∙ sym (y .buffer))
 
   -- Changing, adding or removing payloads that the sheet does not name, tag tables or length forms of an accepted pack changes nothing: two packs
   -- that have, item by item, the same payloads that the sheet names are answered the same and leave the same in one buffer.
@@ -152,7 +163,8 @@ module _ (sheet s : List ℕ) (sh : Sheet) (r : Read) (named : sheetOf sheet ≡
       → (meant s r) .offset ≡ (meant t q) .offset → namedBy sh ((meant s r) .items) ≡ namedBy sh ((meant t q) .items)
       → Scrubs sheet s before a us → Scrubs sheet t before b vs → (a ≡ b) × (us ≡ vs)
   no-trace t q {before} also offsets items x y =
-      let same = demand.no-trace sheet s t sh r q (length before) named accepted also offsets items in
+      let tell = keeping.named-tell sh ((meant s r) .items) ((meant t q) .items) items in
+      let same = scrubbing.scrub-same sheet s t sh r q (length before) named accepted also offsets tell in
       (x .answer ∙ ap (answered length) same ∙ sym (y .answer), x .buffer ∙ ap (leaves before) same ∙ sym (y .buffer))
 
   -- Reading the pack that was written gives exactly the pack offset and the kept items of the pack that was scrubbed, and a good CRC.
@@ -160,33 +172,85 @@ module _ (sheet s : List ℕ) (sh : Sheet) (r : Read) (named : sheetOf sheet ≡
       → ReadsAs (take n after) (kept sh (meant s r))
   read-back {before} n bytes x done =
       subst (λ (b : List ℕ). ReadsAs (take n b) (kept sh (meant s r))) (sym (x .buffer))
-      (demand.read-back-buffer sheet s before sh r n bytes named accepted (sym (x .answer) ∙ done))
+      (back.scrub-reads s r sh bytes accepted sheet _ (length before) named (scrubbing.done-front before _ n (sym (x .answer) ∙ done)))
+
+  -- Scrubbing the pack that was written again, by the same sheet and into a buffer of the same length, gives the same answer and the same buffer.
+  pub scrub-again : {before other after again : List ℕ} {a b : Answer} (n : ℕ) → Bytes s → Scrubs sheet s before a after → a ≡ A.Done n
+      → length before ≡ length other → Scrubs sheet (take n after) other b again → (a ≡ b) × (after ≡ again)
+  unfolding kept
+  scrub-again {before} {other} {after} n bytes x done lengths y =
+      let w = read-back n bytes x done in
+      let items = sym (ap (λ (k : Said). keptItems sh (k .items)) (w .says) ∙ keeping.kept-again sh ((meant s r) .items)) in
+      let same = same-kept-same-buffer (take n after) (w .read) (w .accepted) (sym (ap (λ (k : Said). k .offset) (w .says))) items lengths x y in
+      (same .0, same .1 n done)
+
+  -- The pack is written where buffer and cap hold it; NOROOM is given exactly where one of them does not.
+  pub room-exactly : (room : ℕ)
+      → (length (written (kept sh (meant s r))) ≤ room → length (written (kept sh (meant s r))) ≤ packCap → scrubbed sheet s room ≡ fine (written (kept sh (meant s r))))
+      × ((room < length (written (kept sh (meant s r)))) ⊎ (packCap < length (written (kept sh (meant s r)))) → scrubbed sheet s room ≡ refused R.NoRoom 0)
+  room-exactly room =
+      let w = written (kept sh (meant s r)) in
+      let e = scrubbing.scrub-is sheet s sh r room named accepted in
+      (λ h g. e ∙ scrubbing.room-enough room w h g, λ h. e ∙ scrubbing.room-short room w h)
+
+-- A malformed sheet is refused first, as SHEET with place 0, whatever the pack and the buffer; then the pack is, as reading refuses it.
+pub refused-in-order : (sheet s : List ℕ) (room : ℕ) (why : Refusal) (place : ℕ)
+    → (sheetOf sheet ≡ refused why place → scrubbed sheet s room ≡ refused R.Sheet 0)
+    × ((sh : Sheet) → sheetOf sheet ≡ fine sh → reading s ≡ refused why place → scrubbed sheet s room ≡ refused why place)
+refused-in-order sheet s room why place =
+    (scrubbing.sheet-refused sheet s room why place, λ sh. scrubbing.pack-refused sheet s room sh why place)
 
 -- Nothing is kept that the sheet does not name.
 pub kept-only : (sh : Sheet) (xs : List SaidItem) → Each (λ (p : Placed). onSheet sh p ≡ true) (placed (keptItems sh xs))
-kept-only = demand.kept-only
+kept-only sh xs = rw keeping.kept-placed (those-pass (onSheet sh) (placed xs))
 
 -- All that the sheet names is kept: unaltered, in its order, each payload with the two numbers of its Sync.
 pub kept-whole : (sh : Sheet) (xs : List SaidItem) → placed (keptItems sh xs) ≡ those (onSheet sh) (placed xs)
-kept-whole = demand.kept-whole
+kept-whole = keeping.kept-placed
 
 -- And it stays in the item that it stood in: nothing is moved into another Sync or out of one, and no Sync is kept without a payload.
 pub kept-in-place : (sh : Sheet) (xs : List SaidItem) → (grouped (keptItems sh xs) ≡ namedBy sh xs) × Each HasPayload (keptItems sh xs)
-kept-in-place sh xs = (demand.kept-in-place sh xs, demand.kept-filled sh xs)
+kept-in-place sh xs = (keeping.kept-grouped sh xs, keeping.kept-hold sh xs)
 
 -- The number that a label is mapped to is from 64 up, is not taken, and every smaller number from 64 up is taken.
 pub free-least : (taken : List ℕ) → (64 ≤ free taken) × (among (free taken) taken ≡ false) × ((m : ℕ) → 64 ≤ m → m < free taken → among m taken ≡ true)
-free-least = demand.free-least
+free-least taken = (numbers.free-range taken .0, numbers.free-new taken, numbers.free-smallest taken)
+
+module _ (k : Said) where
+  -- No label is mapped but that of a kept payload.
+  pub mapped-only : Each (λ (m : Entry). List·Memᴰ (label (m .stands)) (names (k .items))) (entriesLaid ((described k) .first))
+  mapped-only = rw described-entries (mappings.entries-only (names (k .items)))
+
+  -- Labels are mapped as `labelsIn` lists them, in order of first appearance.
+  pub mapped-in-order : map (λ (m : Entry). m .stands) (entriesLaid ((described k) .first)) ≡ labelsIn [] (names (k .items))
+  mapped-in-order = rw described-entries (mappings.entries-order (names (k .items)))
+
+  -- With at most 64 kept payloads, and of an accepted pack no more are kept, every label gets a tag from 64 to 127 that is no payload's number name,
+  -- and no tag is given twice.
+  pub new-tags : length (names (k .items)) ≤ 64
+      → Each (λ (m : Entry). (64 ≤ m .tag) × (m .tag ≤ 127) × (among (m .tag) (numbersIn (names (k .items))) ≡ false)) (entriesLaid ((described k) .first))
+      × List·Nodup (map (λ (m : Entry). m .tag) (entriesLaid ((described k) .first)))
+  new-tags few = rw described-entries (mappings.entries-new (names (k .items)) few, mappings.entries-once (names (k .items)))
+
+  -- Config is written only if the pack offset isn't 0 or a kept payload has a label.
+  pub config-needed : k .offset ≡ 0 → labelsIn [] (names (k .items)) ≡ [] → (described k) .first ≡ noConfig
+  config-needed none unlabelled = described-bare k none (mappings.entries-none (names (k .items)) unlabelled)
+
+-- That order: a further name brings its label to the end, unless the label is there or the name is a number.
+pub first-appearance : (ns : List SaidName) (l : List ℕ) (t : ℕ)
+    → (labelsIn [] (ns ++ (label l ∷ [])) ≡ cond (listed l (labelsIn [] ns)) (labelsIn [] ns) (labelsIn [] ns ++ (l ∷ [])))
+    × (labelsIn [] (ns ++ (number t ∷ [])) ≡ labelsIn [] ns)
+first-appearance ns l t = (labels.label-last ns l, labels.number-last ns t)
 
 -- A refusal changes no byte of the buffer.
 pub refused-unchanged : (sheet s : List ℕ) {before after : List ℕ} {a : Answer} (why : Refusal) (place : ℕ) → Scrubs sheet s before a after
     → a ≡ A.Refused why place → after ≡ before
-refused-unchanged sheet s {before} why place x given = x .buffer ∙ demand.refused-unchanged sheet s before why place (sym (x .answer) ∙ given)
+refused-unchanged sheet s {before} why place x given = x .buffer ∙ scrubbing.refused-same before (scrubbed sheet s (length before)) why place (sym (x .answer) ∙ given)
 
 -- After a pack of n bytes the buffer holds 0 to its end.
 pub rest-cleared : (sheet s : List ℕ) {before after : List ℕ} {a : Answer} (n : ℕ) → Scrubs sheet s before a after
     → a ≡ A.Done n → drop n after ≡ replicate (length before - n) 0
-rest-cleared sheet s {before} n x done = ap (drop n) (x .buffer) ∙ demand.rest-cleared sheet s before n (sym (x .answer) ∙ done)
+rest-cleared sheet s {before} n x done = ap (drop n) (x .buffer) ∙ scrubbing.done-rest before (scrubbed sheet s (length before)) n (sym (x .answer) ∙ done)
 
 -- PMD VALUES
 

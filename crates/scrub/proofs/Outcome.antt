@@ -29,7 +29,7 @@ use Rattle.scrub_kept.proofs.Sizes.{written-bytes, written-length}
 use Rattle.scrub_kept.proofs.Scrubbing.{scrub-is, room-enough, room-short}
 use Rattle.scrub_sheet.specs.declared.Asked.{Asked}
 use Rattle.scrub_sheet.specs.declared.Asked.the-variants as K
-use Rattle.scrub_sheet.specs.Judged.{sheetAsked, asks, outcome}
+use Rattle.scrub_sheet.specs.Asked.{sheetAsked, asks, outcome}
 use Rattle.scrub_sheet.proofs.Header.{judged-outcome, judged-holds}
 use Rattle.scrub_write.specs.Laid.{contentAt, framed, sealed, Packed, Packs}
 use Rattle.pack_slots.specs.Slots.{slotsIn}

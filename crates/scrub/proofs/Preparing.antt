@@ -25,7 +25,7 @@ use Rattle.scrub_kept.specs.Kept.{keptItems, kept}
 use Rattle.scrub_kept.specs.Written.{free, assigned, entries, entriesOf, asConfig, asChunk, tagFor, contentOf}
 use Rattle.runs.proofs.Those.{each-map}
 use Rattle.scrub_kept.proofs.Free.{free-range}
-use Rattle.scrub_kept.proofs.Demand3.{kept-few}
+use Rattle.scrub_kept.proofs.ReadBack.{kept-few}
 use Rattle.scrub_names.specs.declared.Mark.{Mark}
 use Rattle.scrub_names.specs.declared.Mark.the-variants as M
 use Rattle.scrub_names.specs.Marks.{Names, flagsOf, markItem, marksOf, numbersOf, labelsOf, marked, Noted}

@@ -10,7 +10,7 @@ use Rattle.scrub_kept.specs.Sheet.{sheetOf}
 use Rattle.scrub_kept.specs.Scrubbed.{scrubbed, scrubAnswer, leaves}
 use Rattle.scrub_sheet.specs.declared.Asked.{Asked}
 use Rattle.scrub_sheet.specs.declared.Asked.the-variants as K
-use Rattle.scrub_sheet.specs.Judged.{asks, EntriesThere}
+use Rattle.scrub_sheet.specs.Asked.{asks, EntriesThere}
 
 -- the answer and the buffer are those of the scrub of the pack s by the bytes of a sheet
 pub record Scrubs (sheet s before : List ℕ) (r : Answer) (after : List ℕ) : Type 0 where

@@ -6,7 +6,7 @@ ghost use Rattle.pack.specs.Reading.{Read, reading};
 ghost use Rattle.pack.specs.Meaning.{meant};
 ghost use Rattle.pack_slots.specs.Slots.{slotsIn};
 ghost use Rattle.scrub_kept.specs.Kept.{kept};
-ghost use Rattle.scrub_sheet.specs.Judged.{asks, EntriesThere};
+ghost use Rattle.scrub_sheet.specs.Asked.{asks, EntriesThere};
 ghost use Rattle.scrub_write.specs.Ops.{opsIn};
 ghost use Rattle.scrub.specs.Ready.{Accepts, Ready};
 ghost use Rattle.scrub.specs.Scrubs.{Scrubs, isRefused, Good};

@@ -22,9 +22,9 @@ use Rattle.pack_layout.specs.Layout.{noConfig, Entry, crc, elementsBytes, group
 use Rattle.pack_layout.specs.Well.{FormFits, WellElement, WellElements, WellChunks, WellEntries, WellConfig, WellCrc, crcSize, chunksCount, WellFormed}
 use Rattle.pack_layout.proofs.Entries.{entryLabels}
 use Rattle.runs.specs.Those.{Each}
-use Rattle.scrub_kept.specs.Written.{numbersIn, labelsIn, assigned, free, entries, tagFor, asElement, asChunk, asConfig, entriesOf, firstOf, chunksOf, contentOf, valueSize, described, written}
+use Rattle.scrub_kept.specs.Written.{numbersIn, labelsIn, assigned, free, entries, tagFor, asElement, asChunk, asConfig, entriesOf, configFor, chunksOf, contentOf, valueSize, described, written}
 use Rattle.runs.proofs.Those.{each-map, each-both, each-member, each-append, each-left, each-right}
-use Rattle.scrub_kept.proofs.Listed.{among-here, listed-each}
+use Rattle.scrub_kept.proofs.Listed.{among-here, listed-mem}
 use Rattle.scrub_kept.proofs.Entries.{assigned-labels, assigned-length, assigned-new, assigned-apart, Reaches, assigned-range, label-tag, number-means, label-means}
 use Rattle.scrub_kept.proofs.Free.{free-range}
 use Rattle.scrub_kept.proofs.Labels.{Named, names-named, names-few, LabelsApart, labels-apart, labels-only, Known, labels-few}
@@ -119,7 +119,7 @@ module _ (ls : List (List ℕ)) (ns : List SaidName) (few : length ns ≤ 64) (s
   names-known = each-map known ns sayable
 
   label-in : Each SayableLabel ls → (l : List ℕ) → List·Memᴰ (label l) ns → SayableLabel l
-  label-in g l m = listed-each SayableLabel l ls g (each-member (Known ls) ns names-known m)
+  label-in g l m = each-member SayableLabel ls g (listed-mem l ls (each-member (Known ls) ns names-known m))
 
   pub names-entries : Each SayableLabel ls → WellEntries (entries ns)
   names-entries g =
@@ -234,7 +234,7 @@ described-well ls k s h =
     let few : length ns ≤ 64 = omega (arith, names-total (k .items), s .count) in
     let sayable : Each (SayableName ls) ns = items-named ls (k .items) (s .items) in
     let size : valueSize k ≤ packCap = omega (arith, written-length k, h) in
-    let parts = length-append (configBytes (firstOf k)) (chunksBytes (chunksOf k)) in
+    let parts = length-append (configBytes (configFor k)) (chunksBytes (chunksOf k)) in
     record {
       fits = subst (λ (n : ℕ). FormFits (shortest (valueSize k)) (length (contentOf k) + n)) (sym crc-size) (fits-short (valueSize k) size);
       opening =

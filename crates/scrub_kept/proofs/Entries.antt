@@ -2,7 +2,7 @@
 -- written with means that name.
 use mathlib.Core.Path.{_≡_, refl, sym, ap, subst, _∙_}
 use mathlib.Core.List.{List, [], _∷_, _++_, List·Memᴰ, List·Memᴰ·head, List·Memᴰ·tail, List·Memᴰ·not-nil, List·Nodup, Pairwise·nil, nodup-cons}
-use mathlib.Core.Logic.{_⊎_, inl, inr, ∥∥₁-elim}
+use mathlib.Core.Logic.{∥∥₁-elim}
 use mathlib.Core.HLevel.{⊥-prop}
 use mathlib.Core.Bool.{true, false}
 use Prim.Native.Nat.{ℕ, suc, _+_, _<_, _≤_}
@@ -19,8 +19,8 @@ use Rattle.pack_layout.proofs.Entries.{entryTags, entryLabels}
 use Rattle.runs.specs.Those.{Each}
 use Rattle.scrub_kept.specs.Written.{free, assigned, tagFor}
 use Rattle.runs.proofs.Those.{each-map}
-use Rattle.scrub_kept.proofs.Listed.{never, among-here, among-more, among-rest, among-none}
-use Rattle.scrub_kept.proofs.Free.{free-new, free-range, free-smallest}
+use Rattle.scrub_kept.proofs.Listed.{never, among-here, among-more, among-none}
+use Rattle.scrub_kept.proofs.Free.{free-new, free-range}
 
 -- no number is among those after it
 abbrev pub Apart : List ℕ → Type 0
@@ -83,28 +83,6 @@ assigned-range taken (l ∷ ls) =
     let seen = free taken ∷ taken in
     let more : (m : Entry) → Reaches (length seen + length ls) (m .tag) → Reaches (length taken + length (l ∷ ls)) (m .tag) = λ m h. (h .0, omega arith) in
     ((omega arith, omega arith), each-map more (assigned seen ls) (assigned-range seen ls))
-
--- every number from 64 up that is smaller than a tag is taken or the tag of an earlier mapping
-pub assigned-least : (taken : List ℕ) (ls : List (List ℕ)) (before : List Entry) (m : Entry) (after : List Entry) (t : ℕ)
-    → assigned taken ls ≡ before ++ (m ∷ after) → 64 ≤ t → t < m .tag → (among t taken ≡ true) ⊎ (among t (entryTags before) ≡ true)
-unfolding assigned
-assigned-least taken [] [] m after t e h g = absurd-eq (cc)
-assigned-least taken [] (b ∷ before) m after t e h g = absurd-eq (cc)
-assigned-least taken (l ∷ ls) [] m after t e h g =
-    let z : record { tag = free taken; stands = l } ≡ m = cc in
-    inl (free-smallest taken t h (omega (arith, ap (λ (x : Entry). x .tag) z)))
-assigned-least taken (l ∷ ls) (b ∷ before) m after t e h g =
-    let z : record { tag = free taken; stands = l } ≡ b = cc in
-    let q : free taken ≡ b .tag = ap (λ (x : Entry). x .tag) z in
-    earlier (assigned-least (free taken ∷ taken) ls before m after t (cc) h g) q
-  where
-    earlier : (among t (free taken ∷ taken) ≡ true) ⊎ (among t (entryTags before) ≡ true) → free taken ≡ b .tag
-        → (among t taken ≡ true) ⊎ (among t (entryTags (b ∷ before)) ≡ true)
-    earlier (inr i) q = inr (among-more t (b .tag) (entryTags before) i)
-    earlier (inl i) q =
-        split (eqb (free taken) t)
-        (λ a. inr (subst (λ (n : ℕ). among n (b .tag ∷ entryTags before) ≡ true) (sym q ∙ eqb-true (free taken) t a) (among-here (b .tag) (entryTags before))))
-        (λ a. inl (among-rest t (free taken) taken a i))
 
 -- what holds of all tags holds of the tag of a label that is mapped
 pub label-tag : (P : ℕ → Type 0) (l : List ℕ) (ms : List Entry) → listed l (entryLabels ms) ≡ true → Each (λ (m : Entry). P (m .tag)) ms → P (tagFor ms (label l))

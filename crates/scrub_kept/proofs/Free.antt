@@ -1,53 +1,27 @@
 -- The smallest number from 64 up that is not taken. It is found among as many as are taken and one more (pigeonhole: each number that is
 -- passed over is a taken one less above).
-use mathlib.Core.Path.{_≡_, sym}
-use mathlib.Core.List.{List, [], _∷_}
-use mathlib.Core.Bool.{true, false, cond}
+use mathlib.Core.Path.{_≡_}
+use mathlib.Core.List.{List}
+use mathlib.Core.Bool.{true, false}
 use Prim.Native.Nat.{ℕ, zero, suc, _+_, _<_, _≤_}
 use native.Mathlib.Omega.{arith}
 use lib.ListN.{length}
 use lib.Dec.{leb, eqb}
 use borrow.Author.Tests.{leb-true, le-leb, lt-leb, eqb-true, eqb-false}
 use Rattle.runs.specs.Same.{among}
+use Rattle.runs.specs.Those.{those}
 use Rattle.runs.proofs.Cases.{split}
+use Rattle.runs.proofs.Those.{those-few}
 use Rattle.scrub_kept.specs.Written.{freeFrom, free}
-use Rattle.scrub_kept.proofs.Listed.{never}
+use Rattle.scrub_kept.proofs.Listed.{among-mem, those-fewer}
 
--- how many of a list are at least n
-unfoldable above : ℕ → List ℕ → ℕ
-above n [] = 0
-above n (x ∷ xs) = cond (leb n x) (1 + above n xs) (above n xs)
+-- how many of a list are at least n; one number up they are fewer, if the number is among them
+abbrev above : ℕ → List ℕ → ℕ
+above n xs = length (those (leb n) xs)
 
-above-few : (n : ℕ) (xs : List ℕ) → above n xs ≤ length xs
-unfolding above
-above-few n [] = omega arith
-above-few n (x ∷ xs) = let i = above-few n xs in split (leb n x) (λ e. rw e (omega arith)) (λ e. rw e (omega arith))
-
--- one number up there are no more of them
-above-less : (n : ℕ) (xs : List ℕ) → above (suc n) xs ≤ above n xs
-unfolding above
-above-less n [] = omega arith
-above-less n (x ∷ xs) =
-    let i = above-less n xs in
-    split (leb (suc n) x)
-    (λ e. rw (e, le-leb n x (omega (arith, leb-true))) (omega arith))
-    (λ e. split (leb n x) (λ f. rw (e, f) (omega arith)) (λ f. rw (e, f) (omega arith)))
-
--- and one less, if the number is among them
 above-one : (n : ℕ) (xs : List ℕ) → among n xs ≡ true → above (suc n) xs < above n xs
-unfolding above among
-above-one n [] h = never (sym h)
-above-one n (x ∷ xs) h =
-    let less = above-less n xs in
-    split (eqb x n)
-    (λ e. let q : x ≡ n = eqb-true x n e in
-    let y : x < suc n = omega arith in
-    let z : n ≤ x = omega arith in
-    rw (lt-leb (suc n) x y, le-leb n x z) (omega arith))
-    (λ e. let i = above-one n xs (simp e at h) in
-    split (leb (suc n) x)
-    (λ f. rw (f, le-leb n x (omega (arith, leb-true))) (omega arith))
-    (λ f. split (leb n x) (λ g. rw (f, g) (omega arith)) (λ g. rw (f, g) (omega arith))))
+above-one n xs h =
+    those-fewer (leb n) (leb (suc n)) (λ x e. le-leb n x (omega (arith, leb-true))) xs (among-mem n xs h) (le-leb n n (omega arith)) (lt-leb (suc n) n (omega arith))
 
 from-new : (k n : ℕ) (xs : List ℕ) → above n xs ≤ k → among (freeFrom k n xs) xs ≡ false
 unfolding freeFrom
@@ -73,7 +47,7 @@ from-least (suc k) n xs m h g =
 
 -- it is not taken
 pub free-new : (taken : List ℕ) → among (free taken) taken ≡ false
-free-new taken = from-new (length taken) _ taken (above-few _ taken)
+free-new taken = from-new (length taken) _ taken (those-few (leb 64) taken)
 
 pub free-range : (taken : List ℕ) → (64 ≤ free taken) × (free taken ≤ 64 + length taken)
 free-range taken = from-range (length taken) _ taken

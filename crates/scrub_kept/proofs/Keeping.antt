@@ -34,14 +34,6 @@ flatten-those test [] = refl
 flatten-those test (g ∷ gs) = ap (λ (t : List Placed). those test g ++ t) (flatten-those test gs) ∙ sym (those-append test g (flatten gs))
 
 module _ (sheet : Sheet) where
-  pub kept-offset : (k : Said) → (kept sheet k) .offset ≡ k .offset
-  unfolding kept
-  kept-offset k = refl
-
-  pub kept-items : (k : Said) → (kept sheet k) .items ≡ keptItems sheet (k .items)
-  unfolding kept
-  kept-items k = refl
-
   pub kept-grouped : (xs : List SaidItem) → grouped (keptItems sheet xs) ≡ namedBy sheet xs
   unfolding keptItems those
   kept-grouped [] = refl
@@ -119,12 +111,13 @@ module _ (sheet : Sheet) where
         (those-each (λ (x : SaidPayload). keeps sheet (x .name)) (SayablePayload ls) xs (h .0 .all)) (items-sayable r (h .1))
 
     pub kept-sayable : (k : Said) → Sayable ls k → Sayable ls (kept sheet k)
+    unfolding kept
     kept-sayable k s = record {
       few = s .few;
       labels = s .labels;
-      offset = rw kept-offset (s .offset);
-      items = rw kept-items (items-sayable (k .items) (s .items));
-      count = rw kept-items (omega (arith, kept-total (k .items), s .count));
+      offset = s .offset;
+      items = items-sayable (k .items) (s .items);
+      count = omega (arith, kept-total (k .items), s .count);
     }
 
 -- items that hold payloads are told by their groups
@@ -154,7 +147,7 @@ item-of (sync o d (x ∷ xs)) (sync p c (y ∷ ys)) h g e =
     let m : x ∷ xs ≡ y ∷ ys = sym (payloads-of o d (x ∷ xs)) ∙ ap payloads e ∙ payloads-of p c (y ∷ ys) in
     cc
 
-pub groups-tell : (xs ys : List SaidItem) → Each HasPayload xs → Each HasPayload ys → grouped xs ≡ grouped ys → xs ≡ ys
+groups-tell : (xs ys : List SaidItem) → Each HasPayload xs → Each HasPayload ys → grouped xs ≡ grouped ys → xs ≡ ys
 groups-tell [] [] h g e = refl
 groups-tell [] (y ∷ ys) h g e = absurd-eq (cc)
 groups-tell (x ∷ xs) [] h g e = absurd-eq (cc)

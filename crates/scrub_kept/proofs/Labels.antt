@@ -1,53 +1,38 @@
 -- The labels and the numbers among names: each name is there, no label is there twice, labels stand in order of first appearance, and there are
 -- no more of them than a pack that has them all maps.
 use mathlib.Core.Path.{_≡_, refl, sym, ap, _∙_}
-use mathlib.Core.List.{List, [], _∷_, _++_, append-nil, List·Memᴰ, List·Memᴰ·head, List·Memᴰ·tail}
-use mathlib.Core.Bool.{true, false, cond, not, _||_}
+use mathlib.Core.List.{List, [], _∷_, _++_, List·Memᴰ, List·Memᴰ·head, List·Memᴰ·tail}
+use mathlib.Core.Bool.{true, false, cond, not}
+use mathlib.Core.Logic.{_⊎_, inl, inr}
 use Prim.Native.Nat.{ℕ, _+_, _<_, _≤_}
 use native.Mathlib.Omega.{arith}
 use lib.ListN.{length}
 use Rattle.runs.specs.Same.{same, among, listed}
 use Rattle.runs.proofs.Cases.{split}
-use Rattle.runs.proofs.Same.{same-refl, same-true}
+use Rattle.runs.proofs.Same.{same-true}
 use Rattle.pack.specs.Said.{SaidName, label, number}
 use Rattle.runs.specs.Those.{those, Each}
 use Rattle.scrub_kept.specs.Written.{numbersIn, labelsIn}
 use Rattle.runs.proofs.Those.{each-map, those-few}
-use Rattle.scrub_kept.proofs.Listed.{never, among-here, among-more, listed-here, listed-more}
+use Rattle.scrub_kept.proofs.Listed.{never, among-here, among-more, listed-here, listed-more, listed-mem, those-fewer}
+use Rattle.scrub_kept.proofs.Firsts.{Silent, Firsts, silent-last, named-last}
 
--- a name more at the end: a label that is not there yet comes to the end
-grow : (l : List ℕ) (seen : List (List ℕ)) (ns : List SaidName)
-    → labelsIn seen (ns ++ (label l ∷ [])) ≡ labelsIn seen ns ++ cond (listed l seen || listed l (labelsIn seen ns)) [] (l ∷ [])
+-- in order of first appearance
+labels-first : Firsts same listed label labelsIn
 unfolding labelsIn listed
-grow l seen [] = split (listed l seen) (λ e. rw e) (λ e. rw e)
-grow l seen (number t ∷ r) = grow l seen r
-grow l seen (label m ∷ r) =
-    split (listed m seen)
-    (λ e. rw e (grow l seen r))
-    (λ e. let i = grow l (m ∷ seen) r in
-    split (same m l)
-    (λ f. split (listed l seen)
-    (λ g. rw (e, f, g) (ap (λ (x : List (List ℕ)). m ∷ x) (simp f at i)))
-    (λ g. rw (e, f, g) (ap (λ (x : List (List ℕ)). m ∷ x) (simp f at i))))
-    (λ f. rw (e, f) (ap (λ (x : List (List ℕ)). m ∷ x) (simp f at i))))
+labels-first = record { has-none = λ x. refl; has-more = λ x y ys. refl; ends = λ seen. refl; first = λ seen x r. refl; each = told }
+  where
+    told : (n : SaidName) → ((l : List ℕ) × (n ≡ label l)) ⊎ Silent labelsIn n
+    told (label l) = inl (l, refl)
+    told (number t) = inr (λ seen r. refl)
 
 pub label-last : (ns : List SaidName) (l : List ℕ)
     → labelsIn [] (ns ++ (label l ∷ [])) ≡ cond (listed l (labelsIn [] ns)) (labelsIn [] ns) (labelsIn [] ns ++ (l ∷ []))
-unfolding listed
-label-last ns l =
-    let i = grow l [] ns in
-    split (listed l (labelsIn [] ns))
-    (λ e. let j : labelsIn [] (ns ++ (label l ∷ [])) ≡ labelsIn [] ns ++ [] = simp e at i in rw e (j ∙ append-nil (labelsIn [] ns)))
-    (λ e. rw e (simp e at i))
+label-last ns l = named-last labels-first l ns
 
-pub number-last : (seen : List (List ℕ)) (ns : List SaidName) (t : ℕ) → labelsIn seen (ns ++ (number t ∷ [])) ≡ labelsIn seen ns
+pub number-last : (ns : List SaidName) (t : ℕ) → labelsIn [] (ns ++ (number t ∷ [])) ≡ labelsIn [] ns
 unfolding labelsIn
-number-last seen [] t = refl
-number-last seen (number u ∷ r) t = number-last seen r t
-number-last seen (label l ∷ r) t =
-    split (listed l seen)
-    (λ e. rw e (number-last seen r t))
-    (λ e. rw e (ap (λ (x : List (List ℕ)). l ∷ x) (number-last (l ∷ seen) r t)))
+number-last ns t = silent-last labels-first (number t) (λ seen r. refl) ns
 
 -- a name is among the numbers, or among the labels unless it was seen before
 abbrev Shown : List ℕ → List (List ℕ) → List (List ℕ) → SaidName → Type 0
@@ -140,26 +125,11 @@ labels-only seen (label m ∷ r) =
 abbrev unseen : List (List ℕ) → List (List ℕ) → ℕ
 unseen seen ls = length (those (λ (x : List ℕ). not (listed x seen)) ls)
 
-unseen-less : (l : List ℕ) (seen ls : List (List ℕ)) → unseen (l ∷ seen) ls ≤ unseen seen ls
-unfolding those listed
-unseen-less l seen [] = omega arith
-unseen-less l seen (x ∷ ls) =
-    let i = unseen-less l seen ls in
-    split (listed x seen)
-    (λ e. split (same l x) (λ f. rw (e, f) i) (λ f. rw (e, f) i))
-    (λ e. split (same l x) (λ f. rw (e, f) (omega arith)) (λ f. rw (e, f) (omega arith)))
-
 unseen-one : (l : List ℕ) (seen ls : List (List ℕ)) → listed l seen ≡ false → listed l ls ≡ true → unseen (l ∷ seen) ls < unseen seen ls
-unfolding those listed
-unseen-one l seen [] n h = never (sym h)
-unseen-one l seen (x ∷ ls) n h =
-    let less = unseen-less l seen ls in
-    split (same x l)
-    (λ e. let q : x ≡ l = same-true x l e in rw (q, n, same-refl l) (omega arith))
-    (λ e. let i = unseen-one l seen ls n (simp e at h) in
-    split (listed x seen)
-    (λ f. split (same l x) (λ g. rw (f, g) i) (λ g. rw (f, g) i))
-    (λ f. split (same l x) (λ g. rw (f, g) (omega arith)) (λ g. rw (f, g) (omega arith))))
+unseen-one l seen ls n h =
+    let less : (x : List ℕ) → not (listed x (l ∷ seen)) ≡ true → not (listed x seen) ≡ true =
+    λ x e. split (listed x seen) (λ f. never (sym e ∙ ap not (listed-more x l seen f))) (λ f. ap not f) in
+    those-fewer (λ (x : List ℕ). not (listed x seen)) (λ (x : List ℕ). not (listed x (l ∷ seen))) less ls (listed-mem l ls h) (ap not n) (ap not (listed-here l seen))
 
 -- a name that is a number, or one of these labels
 abbrev pub Known : List (List ℕ) → SaidName → Type 0

@@ -1,17 +1,25 @@
--- Numbers and labels that are among others.
+-- Numbers and labels that are among others, and how many of a list pass a test.
 use mathlib.Core.Path.{_≡_, refl, sym, subst}
-use mathlib.Core.List.{List, [], _∷_}
-use mathlib.Core.Bool.{true, false}
-use Prim.Native.Nat.{ℕ}
+use mathlib.Core.List.{List, [], _∷_, List·Memᴰ, List·Memᴰ·head, List·Memᴰ·tail, List·Memᴰ·not-nil}
+use mathlib.Core.Bool.{Bool, true, false, cond, _||_}
+use Prim.Native.Nat.{ℕ, _<_, _≤_}
+use native.Mathlib.Omega.{arith}
 use lib.Dec.{eqb}
-use borrow.Author.Tests.{eq-eqb}
+use lib.ListN.{length}
+use borrow.Author.Tests.{eq-eqb, eqb-true}
 use Rattle.runs.specs.Same.{same, among, listed}
 use Rattle.runs.proofs.Cases.{split, absurd-eq}
 use Rattle.runs.proofs.Same.{same-refl, same-true}
-use Rattle.runs.specs.Those.{Each}
+use Rattle.runs.specs.Those.{those}
 
 pub never : {P : Type 0} → true ≡ false → P
 never e = absurd-eq (cc)
+
+-- the head of a list on whichever side it is looked for
+pub or-moved : (b f r : Bool) → cond b true f || r ≡ f || cond b true r
+or-moved true true r = refl
+or-moved true false r = refl
+or-moved false f r = refl
 
 pub among-here : (n : ℕ) (xs : List ℕ) → among n (n ∷ xs) ≡ true
 unfolding among
@@ -20,10 +28,6 @@ among-here n xs = rw (eq-eqb n n refl)
 pub among-more : (n x : ℕ) (xs : List ℕ) → among n xs ≡ true → among n (x ∷ xs) ≡ true
 unfolding among
 among-more n x xs h = split (eqb x n) (λ e. rw e) (λ e. rw e h)
-
-pub among-rest : (n x : ℕ) (xs : List ℕ) → eqb x n ≡ false → among n (x ∷ xs) ≡ true → among n xs ≡ true
-unfolding among
-among-rest n x xs e h = simp e at h
 
 -- a number that is not among a list is not its head, and not among the rest
 pub among-none : (n x : ℕ) (xs : List ℕ) → among n (x ∷ xs) ≡ false → (eqb x n ≡ false) × (among n xs ≡ false)
@@ -38,8 +42,33 @@ pub listed-more : (l x : List ℕ) (ls : List (List ℕ)) → listed l ls ≡ tr
 unfolding listed
 listed-more l x ls h = split (same x l) (λ e. rw e) (λ e. rw e h)
 
--- what holds of all labels holds of one of them
-pub listed-each : (P : List ℕ → Type 0) (l : List ℕ) (ls : List (List ℕ)) → Each P ls → listed l ls ≡ true → P l
+pub among-mem : (n : ℕ) (xs : List ℕ) → among n xs ≡ true → List·Memᴰ n xs
+unfolding among
+among-mem n [] h = never (sym h)
+among-mem n (x ∷ xs) h = split (eqb x n) (λ e. List·Memᴰ·head (sym (eqb-true x n e))) (λ e. List·Memᴰ·tail (among-mem n xs (simp e at h)))
+
+pub listed-mem : (l : List ℕ) (ls : List (List ℕ)) → listed l ls ≡ true → List·Memᴰ l ls
 unfolding listed
-listed-each P l [] h g = never (sym g)
-listed-each P l (x ∷ ls) h g = split (same x l) (λ e. subst P (same-true x l e) (h .0)) (λ e. listed-each P l ls (h .1) (simp e at g))
+listed-mem l [] h = never (sym h)
+listed-mem l (x ∷ ls) h = split (same x l) (λ e. List·Memᴰ·head (sym (same-true x l e))) (λ e. List·Memᴰ·tail (listed-mem l ls (simp e at h)))
+
+-- of a list no more pass a narrower test than a wider one, and fewer where an element passes only the wider
+module _ {A : Type 0} (wide narrow : A → Bool) (less : (x : A) → narrow x ≡ true → wide x ≡ true) where
+  those-less : (xs : List A) → length (those narrow xs) ≤ length (those wide xs)
+  unfolding those
+  those-less [] = omega arith
+  those-less (y ∷ xs) =
+      let i = those-less xs in
+      split (narrow y) (λ e. rw (e, less y e) (omega arith)) (λ e. split (wide y) (λ g. rw (e, g) (omega arith)) (λ g. rw (e, g) (omega arith)))
+
+  pub those-fewer : {x : A} (xs : List A) → List·Memᴰ x xs → wide x ≡ true → narrow x ≡ false → length (those narrow xs) < length (those wide xs)
+  unfolding those
+  those-fewer [] m a b = absurd (List·Memᴰ·not-nil m)
+  those-fewer (y ∷ xs) (List·Memᴰ·head e) a b =
+      let i = those-less xs in
+      let c : wide y ≡ true = subst (λ (z : A). wide z ≡ true) e a in
+      let d : narrow y ≡ false = subst (λ (z : A). narrow z ≡ false) e b in
+      rw (c, d) (omega arith)
+  those-fewer (y ∷ xs) (List·Memᴰ·tail m) a b =
+      let i = those-fewer xs m a b in
+      split (narrow y) (λ e. rw (e, less y e) (omega arith)) (λ e. split (wide y) (λ g. rw (e, g) (omega arith)) (λ g. rw (e, g) (omega arith)))

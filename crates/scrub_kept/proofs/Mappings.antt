@@ -1,6 +1,6 @@
 -- The mappings that are written for names: their tags and their labels.
-use mathlib.Core.Path.{_≡_, sym, subst}
-use mathlib.Core.List.{List, [], List·Memᴰ}
+use mathlib.Core.Path.{_≡_, sym, ap, subst}
+use mathlib.Core.List.{List, [], List·Memᴰ, List·Nodup}
 use mathlib.Core.Bool.{false}
 use Prim.Native.Nat.{ℕ, _+_, _≤_}
 use native.Mathlib.Omega.{arith}
@@ -8,13 +8,26 @@ use lib.ListN.{length}
 use Rattle.runs.specs.Same.{among}
 use Rattle.pack.specs.Said.{SaidName, label}
 use Rattle.pack_layout.specs.Layout.{Entry}
+use Rattle.pack_layout.proofs.Entries.{entryTags, entryLabels}
 use Rattle.runs.specs.Those.{Each}
-use Rattle.scrub_kept.specs.Written.{numbersIn, labelsIn, entries}
+use Rattle.scrub_kept.specs.Written.{numbersIn, labelsIn, assigned, entries}
 use Rattle.runs.proofs.Those.{each-both, each-made}
-use Rattle.scrub_kept.proofs.Entries.{Reaches, assigned-labels, assigned-free, assigned-range}
+use Rattle.scrub_kept.proofs.Entries.{apart-nodup, Reaches, assigned-labels, assigned-free, assigned-apart, assigned-range}
 use Rattle.scrub_kept.proofs.Labels.{names-few, labels-only}
 
 module _ (ns : List SaidName) where
+  -- the labels are mapped in their order, and where there is none nothing is mapped
+  pub entries-order : entryLabels (entries ns) ≡ labelsIn [] ns
+  entries-order = assigned-labels (numbersIn ns) (labelsIn [] ns)
+
+  pub entries-none : labelsIn [] ns ≡ [] → entries ns ≡ []
+  unfolding assigned
+  entries-none e = ap (assigned (numbersIn ns)) e
+
+  -- no tag is given twice
+  pub entries-once : List·Nodup (entryTags (entries ns))
+  entries-once = apart-nodup _ (assigned-apart (numbersIn ns) (labelsIn [] ns))
+
   pub entries-new : length ns ≤ 64 → Each (λ (m : Entry). (64 ≤ m .tag) × (m .tag ≤ 127) × (among (m .tag) (numbersIn ns) ≡ false)) (entries ns)
   entries-new h =
       let ts = numbersIn ns in
@@ -27,5 +40,4 @@ module _ (ns : List SaidName) where
   pub entries-only : Each (λ (m : Entry). List·Memᴰ (label (m .stands)) ns) (entries ns)
   entries-only =
       let there : List ℕ → Type 0 = λ l. List·Memᴰ (label l) ns in
-      each-made there (λ (m : Entry). m .stands) (entries ns)
-      (subst (Each there) (sym (assigned-labels (numbersIn ns) (labelsIn [] ns))) (labels-only [] ns))
+      each-made there (λ (m : Entry). m .stands) (entries ns) (subst (Each there) (sym entries-order) (labels-only [] ns))

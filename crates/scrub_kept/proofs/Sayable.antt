@@ -61,20 +61,11 @@ unfolding WellEntries
 entries-labels [] w = search
 entries-labels (m ∷ ms) w = (record { long = w .0 .long; bytes = w .0 .bytes; free = w .0 .free }, entries-labels ms (w .3))
 
-config-few : (c : ConfigLaid) → WellConfig c → length (entryLabels (entriesLaid c)) ≤ mappingCap
+config-sayable : (c : ConfigLaid) → WellConfig c
+    → (length (entryLabels (entriesLaid c)) ≤ mappingCap) × Each SayableLabel (entryLabels (entriesLaid c)) × (offsetLaid c < 65536)
 unfolding WellConfig
-config-few noConfig w = omega arith
-config-few (config form o ms) w = omega (arith, w .2, length-map ms (λ (m : Entry). m .stands))
-
-config-labels : (c : ConfigLaid) → WellConfig c → Each SayableLabel (entryLabels (entriesLaid c))
-unfolding WellConfig
-config-labels noConfig w = search
-config-labels (config form o ms) w = entries-labels ms (w .3)
-
-config-offset : (c : ConfigLaid) → WellConfig c → offsetLaid c < 65536
-unfolding WellConfig
-config-offset noConfig w = omega arith
-config-offset (config form o ms) w = w .1
+config-sayable noConfig w = (omega arith, search, omega arith)
+config-sayable (config form o ms) w = (omega (arith, w .2, length-map ms (λ (m : Entry). m .stands)), entries-labels ms (w .3), w .1)
 
 -- a tag means a name that the pack can have
 name-more : (x : List ℕ) (ls : List (List ℕ)) (n : SaidName) → SayableName ls n → SayableName (x ∷ ls) n
@@ -115,10 +106,11 @@ pub says-sayable : (d : Description) → WellFormed d → Sayable (entryLabels (
 unfolding says
 says-sayable d w =
     let ms = entriesLaid (d .first) in
+    let c = config-sayable (d .first) (w .opening) in
     record {
-      few = config-few (d .first) (w .opening);
-      labels = config-labels (d .first) (w .opening);
-      offset = config-offset (d .first) (w .opening);
+      few = c .0;
+      labels = c .1;
+      offset = c .2;
       items = chunks-say ms (d .chunks) (w .items);
       count = omega (arith, chunks-total ms (d .chunks), w .count);
     }

@@ -28,25 +28,24 @@ pub scrub-is : (sheet s : List ℕ) (sh : Sheet) (r : Read) (room : ℕ) → she
 unfolding scrubbed andThen
 scrub-is sheet s sh r room a b = simp (a, b)
 
--- the sheet is judged first, then the pack
-pub sheet-refused : (sheet s : List ℕ) (room : ℕ) (why : Refusal) (place : ℕ) → sheetOf sheet ≡ refused why place → scrubbed sheet s room ≡ refused why place
-unfolding scrubbed andThen
-sheet-refused sheet s room why place a = simp a
-
-pub pack-refused : (sheet s : List ℕ) (room : ℕ) (sh : Sheet) (why : Refusal) (place : ℕ) → sheetOf sheet ≡ fine sh → reading s ≡ refused why place
-    → scrubbed sheet s room ≡ refused why place
-unfolding scrubbed andThen
-pack-refused sheet s room sh why place a b = simp (a, b)
-
--- a sheet is refused as SHEET, place 0
-pub sheet-why : (sheet : List ℕ) (why : Refusal) (place : ℕ) → sheetOf sheet ≡ refused why place → (why ≡ R.Sheet) × (place ≡ 0)
+-- the sheet is judged first, then the pack; whatever is wrong with the sheet, it is refused as SHEET, place 0
+sheet-why : (sheet : List ℕ) (why : Refusal) (place : ℕ) → sheetOf sheet ≡ refused why place → sheetOf sheet ≡ refused R.Sheet 0
 unfolding sheetOf
 sheet-why sheet why place h =
     split (eqb (length sheet) 0)
     (λ e. let i : fine everything ≡ refused why place = simp e at h in absurd-eq (cc))
     (λ e. split (headerGood sheet && (labelsGood (sheetLabels sheet) && numbersGood (sheetNumbers sheet)))
     (λ f. let i : fine (these (sheetLabels sheet) (sheetNumbers sheet)) ≡ refused why place = simp (e, f) at h in absurd-eq (cc))
-    (λ f. let i : _≡_ {A = Outcome Sheet} (refused R.Sheet 0) (refused why place) = simp (e, f) at h in (cc, cc)))
+    (λ f. simp (e, f)))
+
+pub sheet-refused : (sheet s : List ℕ) (room : ℕ) (why : Refusal) (place : ℕ) → sheetOf sheet ≡ refused why place → scrubbed sheet s room ≡ refused R.Sheet 0
+unfolding scrubbed andThen
+sheet-refused sheet s room why place a = simp (sheet-why sheet why place a)
+
+pub pack-refused : (sheet s : List ℕ) (room : ℕ) (sh : Sheet) (why : Refusal) (place : ℕ) → sheetOf sheet ≡ fine sh → reading s ≡ refused why place
+    → scrubbed sheet s room ≡ refused why place
+unfolding scrubbed andThen
+pack-refused sheet s room sh why place a b = simp (a, b)
 
 -- the same kept items make the same outcome
 pub scrub-same : (sheet s t : List ℕ) (sh : Sheet) (r q : Read) (room : ℕ) → sheetOf sheet ≡ fine sh → reading s ≡ fine r → reading t ≡ fine q
@@ -81,29 +80,27 @@ room-is room w b h =
     (λ f. let i : refused R.NoRoom 0 ≡ fine b = simp (e, f) at h in absurd-eq (cc)))
     (λ e. let i : refused R.NoRoom 0 ≡ fine b = simp e at h in absurd-eq (cc))
 
--- an answer that counts comes of a pack that was written
-pub done-fine : (o : Outcome (List ℕ)) (n : ℕ) → answered length o ≡ A.Done n → (b : List ℕ) × (o ≡ fine b) × (length b ≡ n)
-unfolding answered
-done-fine (fine b) n h = (b, refl, cc)
-done-fine (refused why place) n h = absurd-eq (cc)
-
 -- where something is written, what the buffer held before is gone
-pub done-buffer : (before other : List ℕ) (o : Outcome (List ℕ)) (n : ℕ) → length before ≡ length other → answered length o ≡ A.Done n → leaves before o ≡ leaves other o
+pub done-same : (before other : List ℕ) (o : Outcome (List ℕ)) → length before ≡ length other
+    → (n : ℕ) → answered length o ≡ A.Done n → leaves before o ≡ leaves other o
 unfolding answered leaves
-done-buffer before other (fine b) n l h = ap (λ (m : ℕ). b ++ replicate (m - length b) 0) l
-done-buffer before other (refused why place) n l h = absurd-eq (cc)
+done-same before other (fine b) l n h = ap (λ (m : ℕ). b ++ replicate (m - length b) 0) l
+done-same before other (refused why place) l n h = absurd-eq (cc)
+
+-- the pack of so many bytes as the answer says, and 0 after it
+pub done-front : (before : List ℕ) (o : Outcome (List ℕ)) (n : ℕ) → answered length o ≡ A.Done n → o ≡ fine (take n (leaves before o))
+unfolding answered leaves
+done-front before (fine b) n h = ap fine (sym (take-at b (replicate (length before - length b) 0) n (cc)))
+done-front before (refused why place) n h = absurd-eq (cc)
+
+pub done-rest : (before : List ℕ) (o : Outcome (List ℕ)) (n : ℕ) → answered length o ≡ A.Done n → drop n (leaves before o) ≡ replicate (length before - n) 0
+unfolding answered leaves
+done-rest before (fine b) n h =
+    let l : length b ≡ n = cc in drop-at b (replicate (length before - length b) 0) n l ∙ ap (λ (m : ℕ). replicate (length before - m) 0) l
+done-rest before (refused why place) n h = absurd-eq (cc)
 
 -- after a refusal the buffer holds what it held before
-pub refused-buffer : (before : List ℕ) (o : Outcome (List ℕ)) (why : Refusal) (place : ℕ) → answered length o ≡ A.Refused why place → leaves before o ≡ before
+pub refused-same : (before : List ℕ) (o : Outcome (List ℕ)) (why : Refusal) (place : ℕ) → answered length o ≡ A.Refused why place → leaves before o ≡ before
 unfolding answered leaves
-refused-buffer before (fine b) why place h = absurd-eq (cc)
-refused-buffer before (refused w p) why place h = refl
-
--- the pack, and 0 after it
-pub buffer-front : (before b : List ℕ) (o : Outcome (List ℕ)) → o ≡ fine b → take (length b) (leaves before o) ≡ b
-unfolding leaves
-buffer-front before b o e = ap (λ (p : Outcome (List ℕ)). take (length b) (leaves before p)) e ∙ take-at b (replicate (length before - length b) 0) (length b) refl
-
-pub buffer-rest : (before b : List ℕ) (o : Outcome (List ℕ)) → o ≡ fine b → drop (length b) (leaves before o) ≡ replicate (length before - length b) 0
-unfolding leaves
-buffer-rest before b o e = ap (λ (p : Outcome (List ℕ)). drop (length b) (leaves before p)) e ∙ drop-at b (replicate (length before - length b) 0) (length b) refl
+refused-same before (fine b) why place h = absurd-eq (cc)
+refused-same before (refused w p) why place h = refl

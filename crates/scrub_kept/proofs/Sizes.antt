@@ -16,7 +16,7 @@ use Rattle.pack_layout.specs.Layout.{element, beforeCrc, laid}
 use Rattle.scrub_kept.specs.Written.{contentOf, valueSize, described, written}
 
 -- the CRC payload up to its value
-pub crc-begins : tagBytes 3 ++ formBytes 0 4 ≡ 3 ∷ 4 ∷ []
+crc-begins : tagBytes 3 ++ formBytes 0 4 ≡ 3 ∷ 4 ∷ []
 unfolding formBytes
 crc-begins = ap (λ (l : List ℕ). l ++ formBytes 0 4) (tag-short 3 (omega arith))
 
@@ -36,11 +36,8 @@ pub written-bytes : (k : Said) → written k ≡ checkedBytes k ++ digits 256 4 
 unfolding written laid described
 written-bytes k = ap (λ (l : List ℕ). l ++ digits 256 4 (crcOf l)) (before-is k)
 
-key-length : length key ≡ 16
-unfolding key
-key-length = refl
-
 pub written-length : (k : Said) → length (written k) ≡ 16 + length (lengthBytes (valueSize k)) + valueSize k
+unfolding key
 written-length k =
     let c = contentOf k ++ (3 ∷ 4 ∷ []) in
     let n = lengthBytes (valueSize k) in
@@ -53,18 +50,7 @@ written-length k =
       length-append key (n ++ c),
       length-append n c,
       length-append (contentOf k) (3 ∷ 4 ∷ []),
-      key-length,
     )
-
--- an element as it is written, with the shortest length
-pub element-short : (t : ℕ) (v : List ℕ) → element t (shortest (length v)) v ≡ tagBytes t ++ (lengthBytes (length v) ++ v)
-unfolding lengthBytes
-element-short t v = refl
-
-pub element-size : (t : ℕ) (v : List ℕ) → length (element t (shortest (length v)) v) ≡ length (tagBytes t) + (length (lengthBytes (length v)) + length v)
-element-size t v =
-    ap length (element-short t v) ∙ length-append (tagBytes t) (lengthBytes (length v) ++ v)
-    ∙ ap (λ (n : ℕ). length (tagBytes t) + n) (length-append (lengthBytes (length v)) v)
 
 -- the value of an element, and what follows it, are no longer than both
 pub element-fits : (t form : ℕ) (v r : List ℕ) (n : ℕ) → length (element t form v ++ r) ≤ n → (length v ≤ n) × (length r ≤ n)

@@ -59,22 +59,22 @@ asConfig o (m ∷ ms) = config (shortest (2 + length (entriesBytes (m ∷ ms))))
 abbrev pub entriesOf : Said → List Entry
 entriesOf k = entries (names (k .items))
 
-abbrev pub firstOf : Said → ConfigLaid
-firstOf k = asConfig (k .offset) (entriesOf k)
+abbrev pub configFor : Said → ConfigLaid
+configFor k = asConfig (k .offset) (entriesOf k)
 
 abbrev pub chunksOf : Said → List Chunk
 chunksOf k = map (asChunk (entriesOf k)) (k .items)
 
 -- what stands between the pack's length and its CRC
 abbrev pub contentOf : Said → List ℕ
-contentOf k = configBytes (firstOf k) ++ chunksBytes (chunksOf k)
+contentOf k = configBytes (configFor k) ++ chunksBytes (chunksOf k)
 
 -- the size of the pack's value: the CRC payload takes six bytes, its tag, its length and four bytes of value
 abbrev pub valueSize : Said → ℕ
 valueSize k = length (contentOf k) + 6
 
 unfoldable pub described : Said → Description
-described k = record { form = shortest (valueSize k); first = firstOf k; chunks = chunksOf k; last = crc 0 }
+described k = record { form = shortest (valueSize k); first = configFor k; chunks = chunksOf k; last = crc 0 }
 
 -- the bytes that are written for what is kept
 unfoldable pub written : Said → List ℕ

@@ -9,7 +9,7 @@ ghost use Rattle.pack.specs.Fixed.{itemCap, mappingCap};
 ghost use Rattle.pack.specs.Slots.{padded};
 ghost use Rattle.pack.specs.Fits.{NameFits, ItemFits, SlotsFit};
 ghost use Rattle.pack_slots.specs.Slots.{slotsIn};
-ghost use Rattle.scrub_sheet.specs.Judged.{asks, EntriesThere, Short};
+ghost use Rattle.scrub_sheet.specs.Asked.{asks, EntriesThere, Short};
 ghost use Rattle.scrub_names.specs.Marks.{flagsOf, markName, markItem, marksOf, marked, markAt, marksIn, Noted, PlacesFit};
 ghost use Rattle.scrub_names.specs.Given.{clearAt, given, byIndex, EachBelow};
 use pack::Item;

@@ -10,7 +10,7 @@ use Rattle.scrub_kept.specs.Sheet.{labelsAt, numbersAt}
 use Rattle.scrub_kept.specs.Kept.{keeps}
 use Rattle.scrub_sheet.specs.declared.Asked.{Asked}
 use Rattle.scrub_sheet.specs.declared.Asked.the-variants as K
-use Rattle.scrub_sheet.specs.Judged.{asks, EntriesThere}
+use Rattle.scrub_sheet.specs.Asked.{asks, EntriesThere}
 
 module _ (s : List ℕ) {x : Asked} where
   pub all-keeps : (n : SaidName) → x ≡ K.All → true ≡ keeps (asks s x) n

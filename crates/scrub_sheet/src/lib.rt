@@ -7,7 +7,7 @@ ghost use Rattle.runs.specs.Same.{among, listed};
 ghost use Rattle.pack.specs.Said.{label, number};
 ghost use Rattle.scrub_kept.specs.Sheet.{labelsAt, numbersAt, labelsGood, numbersGood, headerGood};
 ghost use Rattle.scrub_kept.specs.Kept.{keeps};
-ghost use Rattle.scrub_sheet.specs.Judged.{sheetAsked, asks, EntriesThere, Short};
+ghost use Rattle.scrub_sheet.specs.Asked.{sheetAsked, asks, EntriesThere, Short};
 
 // What a sheet asks for: all, its labels and numbers by their counts, or nothing since it is malformed.
 pub enum Asked {

@@ -4,7 +4,7 @@ use Prim.Native.Nat.{_≤_}
 use native.Mathlib.Omega.{arith}
 use borrow.Author.Needs.{needs}
 use Rattle.runs.specs.Digits.{Bytes}
-use Rattle.scrub_sheet.specs.Judged.{asks}
+use Rattle.scrub_sheet.specs.Asked.{asks}
 use Rattle.scrub.proofs.Accepting.{few-rows, flags-ask, note-asks, plan-asks, labels-few, index-asks, marks-ask, prepared}
 use Rattle.scrub.proofs.prepare.Statement.{statement}
 use Rattle.scrub.proofs.prepare.Tie as tie

@@ -9,7 +9,7 @@ use borrow.Author.Needs.{needs}
 use Rattle.pack.specs.Fixed.{mappingCap}
 use Rattle.pack.specs.Said.{label}
 use Rattle.scrub_kept.specs.Kept.{keeps}
-use Rattle.scrub_sheet.specs.Judged.{asks}
+use Rattle.scrub_sheet.specs.Asked.{asks}
 use Rattle.scrub_names.proofs.Padded.{Filling, filling-step, filling-ends}
 use Rattle.scrub_names.proofs.Naming.{place-fits}
 use Rattle.scrub_names.proofs.flags.Statement.{statement}

@@ -17,7 +17,7 @@ use Rattle.pack.specs.Fits.{ItemFits}
 use Rattle.pack.proofs.Slots.{slot-fits}
 use Rattle.pack_slots.specs.Slots.{slotsIn}
 use Rattle.pack_slots.proofs.Laws.{length-in, slot-in}
-use Rattle.scrub_sheet.specs.Judged.{asks}
+use Rattle.scrub_sheet.specs.Asked.{asks}
 use Rattle.scrub_names.specs.Marks.{markItem, marksIn}
 use Rattle.scrub_names.proofs.Cells.{marks-none}
 use Rattle.scrub_names.proofs.Noting.{Noting, noting-begins, noting-here, noting-few, noting-step, noting-ends, note-gone, note-outside, note-inside, note-seen, note-new}

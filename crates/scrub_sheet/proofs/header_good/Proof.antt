@@ -1,100 +1,73 @@
 -- `scrub_sheet::header_good` meets its contract. Each test is one of the header's, in its order.
-use mathlib.Core.Path.{refl, sym}
+use mathlib.Core.Path.{refl}
 use Prim.Native.Nat.{_-_}
 use borrow.Author.Needs.{needs}
-use Rattle.scrub_sheet.proofs.Header.{header-short, header-labels, header-numbers, header-first, header-second, header-last}
-use borrow.Author.Needs.{needs}
+use borrow.Author.Tests.{eq-eqb, ne-eqb, le-leb, lt-leb}
+use Rattle.scrub_sheet.proofs.Header.{header-tested}
 use Rattle.scrub_sheet.proofs.header_good.Statement.{statement}
 use Rattle.scrub_sheet.proofs.header_good.Tie as tie
 
-returns : tie.Need-returns
-returns c = sym (header-short _ (c .if1 .taken))
+-- from a test that was passed to the one before it
+abbrev back2 : tie.Else2 → tie.Else1
+back2 c = c .before .before
 
-be16-requires : tie.Need-be16-requires
-be16-requires c κs = search needs
+abbrev back3 : tie.Else3 → tie.Else2
+back3 c = c .before .before
 
-cast-labels : tie.Need-cast-labels
-cast-labels c = search needs
-
-returns-2 : tie.Need-returns-2
-returns-2 c = sym (header-labels _ (c .before .before .if1 .left) _ _ 0 0 (c .before .be16 .ensures) refl (c .if2 .taken))
-
-be16-requires-2 : tie.Need-be16-requires-2
-be16-requires-2 c κs = search needs
-
-cast-count : tie.Need-cast-count
-cast-count c = search needs
+abbrev back4 : tie.Else4 → tie.Else3
+back4 c = c .before .before
 
 returns-3 : tie.Need-returns-3
-returns-3 c = sym (header-numbers _ (c .before .before .before .before .if1 .left) _ _ 0 0 (c .before .before .before .be16 .ensures) (c .before .be162 .ensures) (c .before .before .if2 .left) (c .if3 .taken))
-
-be16-requires-3 : tie.Need-be16-requires-3
-be16-requires-3 c κs = search needs
+returns-3 c =
+    let two = c .before .before in
+    header-tested _ (two .before .be16 .ensures) (c .before .be162 .ensures) refl refl
+    (le-leb 8 _ ((back2 two) .if1 .left)) (le-leb _ _ (two .if2 .left)) (lt-leb _ _ (c .if3 .taken)) refl refl
 
 returns-4 : tie.Need-returns-4
 returns-4 c =
-    let b = c .before .before .before .before .before in
-    sym (header-first _ (b .before .if1 .left) _ _ _ 0 (b .be16 .ensures) (c .before .before .before .be162 .ensures) (c .before .before .before .before .if2 .left) (c .before .before .if3 .left)
-    (c .before .be163 .ensures) (c .if4 .taken))
-
-be16-requires-4 : tie.Need-be16-requires-4
-be16-requires-4 c κs = search needs
-
-cast-if5 : tie.Need-cast-if5
-cast-if5 c = search needs
-
-mul-if5 : tie.Need-mul-if5
-mul-if5 c = search needs
-
-add-if5 : tie.Need-add-if5
-add-if5 c = search needs
+    let three = c .before .before in
+    let two = back3 three in
+    header-tested _ (two .before .be16 .ensures) (three .before .be162 .ensures) (c .before .be163 .ensures) refl
+    (le-leb 8 _ ((back2 two) .if1 .left)) (le-leb _ _ (two .if2 .left)) (le-leb _ _ (three .if3 .left)) (ne-eqb _ _ (c .if4 .taken)) refl
 
 returns-5 : tie.Need-returns-5
 returns-5 c =
-    let b = c .before .before .before .before .before .before .before in
-    let d = c .before .before .before .before .before in
-    sym (header-second _ (b .before .if1 .left) _ _ _ _ (b .be16 .ensures) (d .be162 .ensures) (c .before .before .before .before .before .before .if2 .left) (c .before .before .before .before .if3 .left)
-    (c .before .before .before .be163 .ensures) (c .before .before .if4 .left) (c .before .be164 .ensures) (c .if5 .taken))
-
-mul-result : tie.Need-mul-result
-mul-result c = search needs
-
-add-result : tie.Need-add-result
-add-result c = search needs
-
-mul-result-2 : tie.Need-mul-result-2
-mul-result-2 c = search needs
-
-add-result-2 : tie.Need-add-result-2
-add-result-2 c = search needs
+    let four = c .before .before in
+    let three = back4 four in
+    let two = back3 three in
+    header-tested _ (two .before .be16 .ensures) (three .before .be162 .ensures) (four .before .be163 .ensures) (c .before .be164 .ensures)
+    (le-leb 8 _ ((back2 two) .if1 .left)) (le-leb _ _ (two .if2 .left)) (le-leb _ _ (three .if3 .left)) (eq-eqb _ _ (four .if4 .left))
+    (ne-eqb _ _ (c .if5 .taken))
 
 returns-6 : tie.Need-returns-6
 returns-6 c =
-    let b = c .before .before .before .before .before .before .before in
-    let d = c .before .before .before .before .before in
-    sym (header-last _ (b .before .if1 .left) _ _ _ _ (b .be16 .ensures) (d .be162 .ensures) (c .before .before .before .before .before .before .if2 .left) (c .before .before .before .before .if3 .left)
-    (c .before .before .before .be163 .ensures) (c .before .before .if4 .left) (c .before .be164 .ensures) (c .if5 .left))
+    let four = c .before .before in
+    let three = back4 four in
+    let two = back3 three in
+    header-tested _ (two .before .be16 .ensures) (three .before .be162 .ensures) (four .before .be163 .ensures) (c .before .be164 .ensures)
+    (le-leb 8 _ ((back2 two) .if1 .left)) (le-leb _ _ (two .if2 .left)) (le-leb _ _ (three .if3 .left)) (eq-eqb _ _ (four .if4 .left))
+    (eq-eqb _ _ (c .if5 .left))
 
 pub header-good-spec : {M : Type 1} → statement M
 header-good-spec =
     tie.close
     (tie.spec
-    returns
-    be16-requires
-    cast-labels
-    returns-2
-    be16-requires-2
-    cast-count
+    (λ c. header-tested _ refl refl refl refl (lt-leb 8 _ (c .if1 .taken)) refl refl refl refl)
+    (λ c κs. search needs)
+    (λ c. search needs)
+    (λ c. header-tested _ (c .before .be16 .ensures) refl refl refl (le-leb 8 _ (c .before .before .if1 .left)) (lt-leb _ _ (c .if2 .taken)) refl refl refl)
+    (λ c κs. search needs)
+    (λ c. search needs)
     returns-3
-    be16-requires-3
+    (λ c κs. search needs)
     returns-4
-    be16-requires-4
-    cast-if5
-    mul-if5
-    add-if5
+    (λ c κs. search needs)
+    (λ c. search needs)
+    (λ c. search needs)
+    (λ c. search needs)
     returns-5
-    mul-result
-    add-result
-    mul-result-2
-    add-result-2
+    (λ c. search needs)
+    (λ c. search needs)
+    (λ c. search needs)
+    (λ c. search needs)
     returns-6)

@@ -1,9 +1,9 @@
 -- `scrub_sheet::labels_good` meets its contract. The loop keeps what the labels that are left decide.
-use mathlib.Core.Path.{sym, _∙_}
+use mathlib.Core.Path.{refl, sym, _∙_}
 use Prim.Native.Nat.{_-_}
 use native.Mathlib.Omega.{arith}
 use Rattle.scrub_kept.specs.Sheet.{labelsAt, labelsGood}
-use Rattle.scrub_sheet.proofs.Runs.{Left, left-begins, label-utility, label-again, label-good, labels-end}
+use Rattle.scrub_sheet.proofs.Runs.{Left, left-decides, left-passes, left-ends, label-judged}
 use Rattle.scrub_sheet.proofs.labels_good.Statement.{statement}
 use Rattle.scrub_sheet.proofs.labels_good.Tie as tie
 
@@ -13,49 +13,35 @@ Inv-loop s at count left₀ next₀ left next = Left 16 s (λ a n. labelsGood (l
 abbrev μ-loop : tie.MeasureT-loop
 μ-loop s at count left₀ next₀ left next = left
 
-loop-holds : tie.Need-loop-holds Inv-loop μ-loop
-loop-holds c = left-begins 16 _ _ _ _ (c .before .pre)
+-- where a label was held against the three, and the turn of the loop in which it was
+abbrev compared : tie.After-has-label Inv-loop μ-loop → tie.After-is-utility Inv-loop μ-loop
+compared m = m .before .before
 
-sub-left : tie.Need-sub-left Inv-loop μ-loop
-sub-left c = omega arith
-
-is-utility-requires : tie.Need-is-utility-requires Inv-loop μ-loop
-is-utility-requires c κs = omega (arith, c .before .loop .inv .room)
+abbrev turn : tie.After-is-utility Inv-loop μ-loop → tie.At-loop Inv-loop μ-loop
+turn u = u .before .before
 
 returns : tie.Need-returns Inv-loop μ-loop
 returns c =
-    let l = c .before .before .before .loop in
-    sym (label-utility _ (l .next) (l .left) (omega arith) (sym (c .before .is-utility .ensures) ∙ c .if1 .taken)) ∙ l .inv .decides
-
-add-has-label : tie.Need-add-has-label Inv-loop μ-loop
-add-has-label c = omega (arith, c .before .before .before .loop .inv .room)
-
-has-label-requires : tie.Need-has-label-requires Inv-loop μ-loop
-has-label-requires c κs = let r = c .before .before .before .loop .inv .room in (omega arith, omega arith)
+    let u = c .before in
+    left-decides ((turn u) .loop .inv) (label-judged _ _ _ (omega arith) (sym (u .is-utility .ensures) ∙ c .if1 .taken) refl)
 
 returns-2 : tie.Need-returns-2 Inv-loop μ-loop
 returns-2 c =
-    let l = c .before .before .before .before .before .loop in
-    let u = sym (c .before .before .before .is-utility .ensures) ∙ c .before .before .if1 .left in
-    sym (label-again _ (l .next) (l .left) (omega arith) u (sym (c .before .has-label .ensures) ∙ c .if2 .taken)) ∙ l .inv .decides
-
-add-next : tie.Need-add-next Inv-loop μ-loop
-add-next c = omega (arith, c .before .before .before .before .before .loop .inv .room)
-
-loop-less : tie.Need-loop-less Inv-loop μ-loop
-loop-less c = omega arith
+    let m = c .before in
+    let u = compared m in
+    left-decides ((turn u) .loop .inv)
+    (label-judged _ _ _ (omega arith) (sym (u .is-utility .ensures) ∙ m .before .if1 .left) (sym (m .has-label .ensures) ∙ c .if2 .taken))
 
 loop-again : tie.Need-loop-again Inv-loop μ-loop
 loop-again c =
-    let l = c .before .before .before .before .before .loop in
-    let u = sym (c .before .before .before .is-utility .ensures) ∙ c .before .before .if1 .left in
-    record {
-      room = omega (arith, l .inv .room);
-      decides = sym (label-good _ (l .next) (l .left) (omega arith) u (sym (c .before .has-label .ensures) ∙ c .if2 .left)) ∙ l .inv .decides;
-    }
+    let m = c .before in
+    let u = compared m in
+    left-passes ((turn u) .loop .inv) (omega (arith, (turn u) .loop .inv .room))
+    (label-judged _ _ _ (omega arith) (sym (u .is-utility .ensures) ∙ m .before .if1 .left) (sym (m .has-label .ensures) ∙ c .if2 .left))
 
 returns-3 : tie.Need-returns-3 Inv-loop μ-loop
-returns-3 c = sym (labels-end _ _ _ (c .loop-test .left)) ∙ c .before .loop .inv .decides
+unfolding labelsAt labelsGood
+returns-3 c = left-ends (c .before .loop .inv) (c .loop-test .left)
 
 pub labels-good-spec : {M : Type 1} → statement M
 labels-good-spec =
@@ -63,14 +49,14 @@ labels-good-spec =
     (tie.spec
     Inv-loop
     μ-loop
-    loop-holds
-    sub-left
-    is-utility-requires
+    (λ c. record { room = c .before .pre; decides = refl })
+    (λ c. omega arith)
+    (λ c κs. omega (arith, c .before .loop .inv .room))
     returns
-    add-has-label
-    has-label-requires
+    (λ c. omega (arith, (turn (c .before)) .loop .inv .room))
+    (λ c κs. let r = (turn (c .before)) .loop .inv .room in (omega arith, omega arith))
     returns-2
-    add-next
-    loop-less
+    (λ c. omega (arith, (turn (compared (c .before))) .loop .inv .room))
+    (λ c. omega arith)
     loop-again
     returns-3)

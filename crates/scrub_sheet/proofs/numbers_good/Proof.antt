@@ -1,9 +1,10 @@
 -- `scrub_sheet::numbers_good` meets its contract. The loop keeps what the numbers that are left decide.
-use mathlib.Core.Path.{sym, _∙_}
+use mathlib.Core.Path.{refl, sym, _∙_}
 use Prim.Native.Nat.{_-_}
 use native.Mathlib.Omega.{arith}
+use borrow.Author.Tests.{le-leb, lt-leb}
 use Rattle.scrub_kept.specs.Sheet.{numbersAt, numbersGood}
-use Rattle.scrub_sheet.proofs.Runs.{Left, left-begins, number-low, number-high, number-again, number-good, numbers-end}
+use Rattle.scrub_sheet.proofs.Runs.{Left, left-decides, left-passes, left-ends, number-judged, number-small, number-large}
 use Rattle.scrub_sheet.proofs.numbers_good.Statement.{statement}
 use Rattle.scrub_sheet.proofs.numbers_good.Tie as tie
 
@@ -13,54 +14,41 @@ Inv-loop s at count left₀ next₀ left next = Left 4 s (λ a n. numbersGood (n
 abbrev μ-loop : tie.MeasureT-loop
 μ-loop s at count left₀ next₀ left next = left
 
-loop-holds : tie.Need-loop-holds Inv-loop μ-loop
-loop-holds c = left-begins 4 _ _ _ _ (c .before .pre)
+-- where a number in range was fetched, and the turn of the loop in which it was
+abbrev fetched : tie.Else2 Inv-loop μ-loop → tie.After-be32 Inv-loop μ-loop
+fetched m = m .before .before
 
-sub-left : tie.Need-sub-left Inv-loop μ-loop
-sub-left c = omega arith
-
-be32-requires : tie.Need-be32-requires Inv-loop μ-loop
-be32-requires c κs = omega (arith, c .before .loop .inv .room)
+abbrev turn : tie.After-be32 Inv-loop μ-loop → tie.At-loop Inv-loop μ-loop
+turn m = m .before .before
 
 returns : tie.Need-returns Inv-loop μ-loop
 returns c =
-    let l = c .before .before .before .loop in
-    sym (number-low _ (l .next) (l .left) _ (omega arith) (c .before .be32 .ensures) (c .if1 .taken)) ∙ l .inv .decides
+    let n = c .before in
+    left-decides ((turn n) .loop .inv) (number-judged _ _ _ (omega arith) (n .be32 .ensures) (lt-leb 4 _ (c .if1 .taken)) refl refl)
 
 returns-2 : tie.Need-returns-2 Inv-loop μ-loop
 returns-2 c =
-    let l = c .before .before .before .before .loop in
-    sym (number-high _ (l .next) (l .left) _ (omega arith) (c .before .before .be32 .ensures) (c .before .if1 .left) (c .if2 .taken)) ∙ l .inv .decides
-
-add-has-number : tie.Need-add-has-number Inv-loop μ-loop
-add-has-number c = omega (arith, c .before .before .before .before .loop .inv .room)
-
-has-number-requires : tie.Need-has-number-requires Inv-loop μ-loop
-has-number-requires c κs = omega (arith, c .before .before .before .before .loop .inv .room)
+    let n = c .before .before in
+    left-decides ((turn n) .loop .inv)
+    (number-judged _ _ _ (omega arith) (n .be32 .ensures) (le-leb 4 _ (c .before .if1 .left)) (number-large _ (c .if2 .taken)) refl)
 
 returns-3 : tie.Need-returns-3 Inv-loop μ-loop
 returns-3 c =
-    let l = c .before .before .before .before .before .before .loop in
-    let b = c .before .before .before .before in
-    sym (number-again _ (l .next) (l .left) _ (omega arith) (b .be32 .ensures) (c .before .before .before .if1 .left) (c .before .before .if2 .left) (sym (c .before .has-number .ensures) ∙ c .if3 .taken)) ∙ l .inv .decides
-
-add-next : tie.Need-add-next Inv-loop μ-loop
-add-next c = omega (arith, c .before .before .before .before .before .before .loop .inv .room)
-
-loop-less : tie.Need-loop-less Inv-loop μ-loop
-loop-less c = omega arith
+    let m = c .before .before in
+    let n = fetched m in
+    left-decides ((turn n) .loop .inv)
+    (number-judged _ _ _ (omega arith) (n .be32 .ensures) (le-leb 4 _ (m .before .if1 .left)) (number-small _ (m .if2 .left)) (sym (c .before .has-number .ensures) ∙ c .if3 .taken))
 
 loop-again : tie.Need-loop-again Inv-loop μ-loop
 loop-again c =
-    let l = c .before .before .before .before .before .before .loop in
-    let b = c .before .before .before .before in
-    record {
-      room = omega (arith, l .inv .room);
-      decides = sym (number-good _ (l .next) (l .left) _ (omega arith) (b .be32 .ensures) (c .before .before .before .if1 .left) (c .before .before .if2 .left) (sym (c .before .has-number .ensures) ∙ c .if3 .left)) ∙ l .inv .decides;
-    }
+    let m = c .before .before in
+    let n = fetched m in
+    left-passes ((turn n) .loop .inv) (omega (arith, (turn n) .loop .inv .room))
+    (number-judged _ _ _ (omega arith) (n .be32 .ensures) (le-leb 4 _ (m .before .if1 .left)) (number-small _ (m .if2 .left)) (sym (c .before .has-number .ensures) ∙ c .if3 .left))
 
 returns-4 : tie.Need-returns-4 Inv-loop μ-loop
-returns-4 c = sym (numbers-end _ _ _ (c .loop-test .left)) ∙ c .before .loop .inv .decides
+unfolding numbersAt numbersGood
+returns-4 c = left-ends (c .before .loop .inv) (c .loop-test .left)
 
 pub numbers-good-spec : {M : Type 1} → statement M
 numbers-good-spec =
@@ -68,15 +56,15 @@ numbers-good-spec =
     (tie.spec
     Inv-loop
     μ-loop
-    loop-holds
-    sub-left
-    be32-requires
+    (λ c. record { room = c .before .pre; decides = refl })
+    (λ c. omega arith)
+    (λ c κs. omega (arith, c .before .loop .inv .room))
     returns
     returns-2
-    add-has-number
-    has-number-requires
+    (λ c. omega (arith, (turn (fetched c)) .loop .inv .room))
+    (λ c κs. omega (arith, (turn (fetched c)) .loop .inv .room))
     returns-3
-    add-next
-    loop-less
+    (λ c. omega (arith, (turn (fetched (c .before .before))) .loop .inv .room))
+    (λ c. omega arith)
     loop-again
     returns-4)

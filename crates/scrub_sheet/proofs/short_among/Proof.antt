@@ -12,38 +12,14 @@ Inv-loop s at count found₀ left₀ next₀ found left next = Finding s at coun
 abbrev μ-loop : tie.MeasureT-loop
 μ-loop s at count found₀ left₀ next₀ found left next = left
 
-loop-holds : tie.Need-loop-holds Inv-loop μ-loop
-loop-holds c = finding-begins _ _ _ (c .before .pre)
-
-be32-requires : tie.Need-be32-requires Inv-loop μ-loop
-be32-requires c κs = omega (arith, c .before .loop .inv .room)
-
-cast-found : tie.Need-cast-found Inv-loop μ-loop
-cast-found c = search needs
-
-array-write-found : tie.Need-array-write-found Inv-loop μ-loop
-array-write-found c = omega arith
-
-sub-left : tie.Need-sub-left Inv-loop μ-loop
-sub-left c = omega arith
-
-add-next : tie.Need-add-next Inv-loop μ-loop
-add-next c = omega arith
-
-loop-less : tie.Need-loop-less Inv-loop μ-loop
-loop-less c = omega arith
-
 loop-again : tie.Need-loop-again Inv-loop μ-loop
 loop-again c =
-    let b = c .before in
-    let l = b .before .before .loop in
+    let fetched = c .before in
+    let turn = fetched .before .before .loop in
     ⊎-elim
-    (λ w. finding-short (l .inv) (omega arith) _ (b .be32 .ensures) (w .0 .taken) _ (w .1))
-    (λ w. finding-long (l .inv) (omega arith) _ (b .be32 .ensures) (w .0 .left) _ (w .1))
+    (λ w. finding-short (turn .inv) (omega arith) _ (fetched .be32 .ensures) (w .0 .taken) _ (w .1))
+    (λ w. finding-long (turn .inv) (omega arith) _ (fetched .be32 .ensures) (w .0 .left) _ (w .1))
     (c .if1 .came)
-
-returns : tie.Need-returns Inv-loop μ-loop
-returns c = finding-ends (c .before .loop .inv) (c .loop-test .left)
 
 pub short-among-spec : {M : Type 1} → statement M
 short-among-spec =
@@ -51,12 +27,12 @@ short-among-spec =
     (tie.spec
     Inv-loop
     μ-loop
-    loop-holds
-    be32-requires
-    cast-found
-    array-write-found
-    sub-left
-    add-next
-    loop-less
+    (λ c. finding-begins _ _ _ (c .before .pre))
+    (λ c κs. omega (arith, c .before .loop .inv .room))
+    (λ c. search needs)
+    (λ c. omega arith)
+    (λ c. omega arith)
+    (λ c. omega arith)
+    (λ c. omega arith)
     loop-again
-    returns)
+    (λ c. finding-ends (c .before .loop .inv) (c .loop-test .left)))
