@@ -24,9 +24,8 @@ use Rattle.pack.specs.declared.Step.the-variants as S
 use Rattle.pack.specs.Payloads.{payloadAt, innerAt, payload, innersFrom}
 use Rattle.pack.specs.Items.{Part, one, many, Body, judged, itemAt, someInside, insideOf, syncHead, with, itemsFrom}
 use Rattle.pack.proofs.Payloads.{payload-within, seen-inner, seen-item}
-use Rattle.pack.proofs.Outcomes.{then-fine}
 use Rattle.pack.proofs.Turns.{inners-end, inners-turn, items-end, items-turn, inside-some}
-use Rattle.pack_layout.proofs.Outcomes.{after}
+use Rattle.refusals.proofs.Outcomes.{then-fine, then-was}
 use Rattle.pack_layout.proofs.Elements.{payload-laid}
 
 -- the payloads of a part q that stands at `base` of the pack, from `at` on, where `used` items and payloads came before
@@ -72,7 +71,7 @@ module _ (q tags : List ℕ) (base : ℕ) where
           let above : 3 < t = leb-false _ _ b in
           let room : used < itemCap = leb-false _ _ c in
           let next = payload-within q at t v l e in
-          let i = after (innersFrom k q tags base (v + l) (used + 1)) (λ ys. fine (x ∷ ys)) (sym (inner-turn k at used t v l (ltb-true _ _ a) e above room) ∙ h) in
+          let i = then-was (innersFrom k q tags base (v + l) (used + 1)) (λ ys. fine (x ∷ ys)) (sym (inner-turn k at used t v l (ltb-true _ _ a) e above room) ∙ h) in
           let z : x ∷ i .0 ≡ xs = (let y = i .2 in cc) in
           subst (InnersRead q tags base at used) z (nextInside t v l e above room (ih (v + l) (used + 1) (i .0) (omega arith) (i .1)))))
 
@@ -166,7 +165,7 @@ module _ (s tags : List ℕ) where
     of-plain : (t v l : ℕ) → payloadAt s at ≡ Whole t v l → 3 < t → used < itemCap → ItemsRead s tags at used (b .parts) (b .crc)
     of-plain t v l e above room =
         let x = payload-within s at t v l e in
-        let r = after (itemsFrom k s tags (v + l) (used + 1)) (with (one (payload tags at t v l))) (sym (turn-plain k at used inside t v l e above room) ∙ h) in
+        let r = then-was (itemsFrom k s tags (v + l) (used + 1)) (with (one (payload tags at t v l))) (sym (turn-plain k at used inside t v l e above room) ∙ h) in
         let w = r .2 in
         is (cc) (nextPlain t v l e above room (rest (v + l) (used + 1) (r .0) (omega arith) (r .1)))
 
@@ -174,14 +173,14 @@ module _ (s tags : List ℕ) where
     of-sync v l e long room =
         let x = payload-within s at 2 v l e in
         let q = take (l - 4) (drop (v + 4) s) in
-        let i = after (insideOf s tags at v l used)
+        let i = then-was (insideOf s tags at v l used)
         (λ ys. andThen (itemsFrom k s tags (v + l) (used + 1 + length ys)) (with (many (syncHead s at v l (length ys)) ys)))
         (sym (turn-sync k at used inside v l e long room) ∙ h) in
         let ys = i .0 in
-        let j = after (innersFrom l q tags (v + 4) 0 (used + 1)) (someInside at) (i .1) in
+        let j = then-was (innersFrom l q tags (v + 4) 0 (used + 1)) (someInside at) (i .1) in
         let n = some-of at (j .0) ys (j .2) in
         let inner = inners-of q tags (v + 4) l 0 (used + 1) ys (simp length-take (omega arith)) (j .1 ∙ ap fine (n .1)) in
-        let r = after (itemsFrom k s tags (v + l) (used + 1 + length ys)) (with (many (syncHead s at v l (length ys)) ys)) (i .2) in
+        let r = then-was (itemsFrom k s tags (v + l) (used + 1 + length ys)) (with (many (syncHead s at v l (length ys)) ys)) (i .2) in
         let w = r .2 in
         let z : bodyOf (many (syncHead s at v l (length ys)) ys ∷ r .0 .parts) (r .0 .crc) ≡ b = cc in
         is z

@@ -9,6 +9,7 @@ use lib.ListN.{length, length-append}
 use lib.Seq.{getD-at}
 use borrow.Author.Tests.{eqb-false, ne-eqb, lt-leb, leb-false}
 use Rattle.runs.specs.Same.{same, among, listed}
+use Rattle.runs.proofs.Bools.{neither}
 use Rattle.runs.proofs.Cases.{split, absurd-eq}
 use Rattle.runs.proofs.Same.{same-true, same-false}
 use Rattle.pack.specs.Fixed.{utilityLabels}
@@ -107,10 +108,6 @@ entries-more (p ∷ before) m w h a b =
     let i = later (λ (x : Entry). x .tag) eqb among (λ x. refl) (λ x y ys. refl) flip-number p before m (w .1) a in
     let j = later (λ (x : Entry). x .stands) same listed (λ x. refl) (λ x y ys. refl) flip-list p before m (w .2) b in
     (w .0, i .0, j .0, entries-more before m (w .3) h (i .1) (j .1))
-
-neither : (a b : Bool) → (a || b) ≡ false → (a ≡ false) × (b ≡ false)
-neither true b h = absurd-eq (cc)
-neither false b h = (refl, h)
 
 -- a mapping that may come after those of `seen`
 pub record Apart (seen : List Mapping) (t : ℕ) (stands : List ℕ) : Type 0 where

@@ -29,9 +29,8 @@ use Rattle.pack.specs.Payloads.{payloadAt}
 use Rattle.pack.specs.Config.{Mapping, tagsOf, labelsOf, clashes, mappingAt, mappingsFrom, configMaps}
 use Rattle.pack.specs.Items.{itemsFrom}
 use Rattle.pack.specs.Reading.{Read, Opening, valueStart, configOf, openingAt, readFrom, reading}
-use Rattle.pack.proofs.Outcomes.{then-fine}
 use Rattle.pack.proofs.Turns.{mappings-end, mappings-turn, mapping-fine}
-use Rattle.pack_layout.proofs.Outcomes.{after}
+use Rattle.refusals.proofs.Outcomes.{then-fine, then-was}
 use Rattle.pack_layout.proofs.Accepts.{ItemsRead, items-run, items-of}
 
 -- the mapping of the tag t to the label that stands at n of c
@@ -110,7 +109,7 @@ module _ (c : List ℕ) (place : ℕ) where
   rest-of zero seen at ms g h = let z : seen ≡ ms = cc in record { more = []; whole = append-nil seen ∙ z; reads = noneMapped {at = at} (omega arith) }
   rest-of (suc k) seen at ms g h =
       split (ltb at (length c))
-      (λ a. let i = after (mappingAt c place seen at) (next k seen) (sym (mappings-turn c place seen at k refl (ltb-true _ _ a) refl) ∙ h) in
+      (λ a. let i = then-was (mappingAt c place seen at) (next k seen) (sym (mappings-turn c place seen at k refl (ltb-true _ _ a) refl) ∙ h) in
       let d = mapping-of seen at (i .0) (i .1) in
       let x = tag-next c at (d .t) (d .n) (d .tag) in
       one-more d (rest-of k (seen ++ (mappingOf c (d .t) (d .n) ∷ [])) (d .n + 16) ms (omega arith) (ap (next k seen) (d .is) ∙ i .2)))
@@ -142,7 +141,7 @@ module _ (s : List ℕ) (at : ℕ) where
   config-of v l o e h =
       split (ltb l 2)
       (λ a. let i : refused R.Config at ≡ fine o = simp a at h in absurd-eq (cc))
-      (λ a. let i = after (mappingsFrom l (take (v + l) s) at [] (v + 2)) (λ ms. fine (opening (bigAt s v 2) ms (v + l))) (simp a at h) in
+      (λ a. let i = then-was (mappingsFrom l (take (v + l) s) at [] (v + 2)) (λ ms. fine (opening (bigAt s v 2) ms (v + l))) (simp a at h) in
       let j = mappings-of (take (v + l) s) at l (v + 2) (i .0) (simp length-take (omega arith)) (i .1) in
       let z : opening (bigAt s v 2) (i .0) (v + l) ≡ o = (let x = i .2 in cc) in
       subst (λ (p : Opening). OpeningRead s at (p .offset) (p .mappings) (p .next)) z (configRead v l e (ltb-false _ _ a) j))
@@ -228,10 +227,10 @@ reading-run s r p =
 pub reading-of : (s : List ℕ) (r : Read) → Bytes s → reading s ≡ fine r → PackRead s r
 unfolding reading readFrom
 reading-of s r b h =
-    let i = after (valueStart s) (λ at. andThen (openingAt s at) (readFrom s)) h in
-    let j = after (openingAt s (i .0)) (readFrom s) (i .2) in
+    let i = then-was (valueStart s) (λ at. andThen (openingAt s at) (readFrom s)) h in
+    let j = then-was (openingAt s (i .0)) (readFrom s) (i .2) in
     let o = j .0 in
-    let k = after (itemsFrom (length s) s (tagsOf (o .mappings)) (o .next) 0) (λ b. fine (record { offset = o .offset; mappings = o .mappings; body = b })) (j .2) in
+    let k = then-was (itemsFrom (length s) s (tagsOf (o .mappings)) (o .next) 0) (λ b. fine (record { offset = o .offset; mappings = o .mappings; body = b })) (j .2) in
     let z : _≡_ {A = Read} (record { offset = o .offset; mappings = o .mappings; body = k .0 }) r = (let x = k .2 in cc) in
     subst (PackRead s) z
     (record {

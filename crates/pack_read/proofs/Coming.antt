@@ -17,7 +17,7 @@ use Rattle.pack.specs.declared.Payload.{Payload}
 use Rattle.pack.specs.declared.Step.{Step}
 use Rattle.pack.specs.declared.Step.the-variants as S
 use Rattle.refusals.proofs.Lent.{refused-was, done-was}
-use Rattle.pack.proofs.Outcomes.{then-fine, then-refused, then-then, then-same, then-id}
+use Rattle.refusals.proofs.Outcomes.{then-fine, then-refused, then-then, then-same, then-id}
 use Rattle.pack.proofs.Payloads.{plain-fits, open-fits}
 use Rattle.pack.proofs.Turns.{itemsOn, items-end, items-turn, inside-none, inside-some}
 use Rattle.pack_read.specs.Steps.{InsideTold}

@@ -15,7 +15,7 @@ use Rattle.pack.specs.declared.Payload.{Payload}
 use Rattle.pack.specs.declared.Found.{Found}
 use Rattle.pack.specs.declared.Found.the-variants.{Whole, Wrong}
 use Rattle.refusals.proofs.Lent.{answers, counts}
-use Rattle.pack.proofs.Outcomes.{then-fine, then-refused, then-then, then-same, then-id}
+use Rattle.refusals.proofs.Outcomes.{then-fine, then-refused, then-then, then-same, then-id}
 use Rattle.pack.proofs.Payloads.{inner-within}
 use Rattle.pack.proofs.Turns.{innersOn, inners-end, inners-turn}
 use Rattle.pack_read.specs.Steps.{InsideTold}

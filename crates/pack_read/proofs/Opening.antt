@@ -17,7 +17,7 @@ use Rattle.pack.specs.Items.{Body, itemsFrom}
 use Rattle.pack.specs.Reading.{Read, valueStart, Opening, openingAt, readFrom, reading, checked}
 use Rattle.pack.specs.Slots.{shown}
 use Rattle.refusals.proofs.Lent.{answers, refused-was, done-was}
-use Rattle.pack.proofs.Outcomes.{then-fine, then-refused, then-then}
+use Rattle.refusals.proofs.Outcomes.{then-fine, then-refused, then-then}
 use Rattle.pack.proofs.Turns.{start-small}
 use Rattle.pack_config.specs.First.{firstAt}
 use Rattle.pack_config.specs.Tables.{Filled, Knows, Empty, Tables, MapsRead}

@@ -5,14 +5,8 @@ use borrow.Author.Needs.{needs}
 use Rattle.ballastwren.proofs.bw_check.Statement.{statement}
 use Rattle.ballastwren.proofs.bw_check.Tie as tie
 
-check-requires : tie.Need-check-requires
-check-requires c κs = search needs
-
-told-answer-requires : tie.Need-told-answer-requires
-told-answer-requires c κs = search needs
-
 returns : tie.Need-returns
 returns c = c .told-answer .ensures ∙ ap toldOf (c .before .check .ensures)
 
 pub bw-check-spec : {M : Type 1} → statement M
-bw-check-spec = tie.close (tie.spec check-requires told-answer-requires returns)
+bw-check-spec = tie.close (tie.spec (λ c κs. search needs) (λ c κs. search needs) returns)

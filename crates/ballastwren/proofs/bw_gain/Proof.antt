@@ -10,21 +10,6 @@ use Rattle.ballastwren.specs.declared.ToldGain.{ToldGain}
 use Rattle.ballastwren.proofs.bw_gain.Statement.{statement}
 use Rattle.ballastwren.proofs.bw_gain.Tie as tie
 
-gain-requires : tie.Need-gain-requires
-gain-requires c κs = search needs
-
-enum-told : tie.Need-enum-told
-enum-told c = search needs
-
-enum-known-level : tie.Need-enum-known-level
-enum-known-level c = search needs
-
-enum-known-level-2 : tie.Need-enum-known-level-2
-enum-known-level-2 c = search needs
-
-number-requires : tie.Need-number-requires
-number-requires c κs = search needs
-
 returns : tie.Need-returns
 returns c = ap toldGainOf (sym (c .enum-told .given .1) ∙ c .before .before .gain .ensures)
 
@@ -44,11 +29,11 @@ pub bw-gain-spec : {M : Type 1} → statement M
 bw-gain-spec =
     tie.close
     (tie.spec
-    gain-requires
-    enum-told
-    enum-known-level
-    enum-known-level-2
-    number-requires
+    (λ c κs. search needs)
+    (λ c. search needs)
+    (λ c. search needs)
+    (λ c. search needs)
+    (λ c κs. search needs)
     returns
     returns-2
     returns-3)

@@ -5,15 +5,6 @@ use borrow.Author.Needs.{needs}
 use Rattle.ballastwren.proofs.bw_pmd_write.Statement.{statement}
 use Rattle.ballastwren.proofs.bw_pmd_write.Tie as tie
 
-pmd-write-requires : tie.Need-pmd-write-requires
-pmd-write-requires c κs = search needs
-
-told-answer-requires : tie.Need-told-answer-requires
-told-answer-requires c κs = search needs
-
-same-length : tie.Need-same-length
-same-length c = search needs
-
 returns : tie.Need-returns
 returns c =
     let d = c .before .before .before .pmd-write .ensures in
@@ -21,4 +12,4 @@ returns c =
 
 pub bw-pmd-write-spec : {M : Type 1} → statement M
 bw-pmd-write-spec =
-    tie.close (tie.spec pmd-write-requires told-answer-requires same-length returns)
+    tie.close (tie.spec (λ c κs. search needs) (λ c κs. search needs) (λ c. search needs) returns)

@@ -5,19 +5,10 @@ use borrow.Author.Needs.{needs}
 use Rattle.ballastwren.proofs.bw_read.Statement.{statement}
 use Rattle.ballastwren.proofs.bw_read.Tie as tie
 
-rows-requires : tie.Need-rows-requires
-rows-requires c κs = search needs
-
-told-answer-requires : tie.Need-told-answer-requires
-told-answer-requires c κs = search needs
-
-same-length : tie.Need-same-length
-same-length c = search needs
-
 returns : tie.Need-returns
 returns c =
     let d = c .before .before .before .rows .ensures in
     record { answers = c .told-answer .ensures ∙ ap toldOf (d .told); run = d .run }
 
 pub bw-read-spec : {M : Type 1} → statement M
-bw-read-spec = tie.close (tie.spec rows-requires told-answer-requires same-length returns)
+bw-read-spec = tie.close (tie.spec (λ c κs. search needs) (λ c κs. search needs) (λ c. search needs) returns)

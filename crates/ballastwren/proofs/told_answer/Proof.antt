@@ -6,18 +6,6 @@ use borrow.Author.Needs.{needs}
 use Rattle.ballastwren.proofs.told_answer.Statement.{statement}
 use Rattle.ballastwren.proofs.told_answer.Tie as tie
 
-enum-known-a : tie.Need-enum-known-a
-enum-known-a c = search needs
-
-enum-known-a-2 : tie.Need-enum-known-a-2
-enum-known-a-2 c = search needs
-
-number-requires : tie.Need-number-requires
-number-requires c κs = search needs
-
-wide-requires : tie.Need-wide-requires
-wide-requires c κs = search needs
-
 returns : tie.Need-returns
 returns c = ap toldOf (sym (c .before .a .given .1))
 
@@ -29,4 +17,4 @@ returns-2 c =
 pub told-answer-spec : {M : Type 1} → statement M
 told-answer-spec =
     tie.close
-    (tie.spec enum-known-a enum-known-a-2 number-requires wide-requires returns returns-2)
+    (tie.spec (λ c. search needs) (λ c. search needs) (λ c κs. search needs) (λ c κs. search needs) returns returns-2)

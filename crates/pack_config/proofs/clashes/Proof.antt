@@ -10,15 +10,9 @@ returns : tie.Need-returns
 unfolding clashes
 returns c = simp (le-leb _ _ (c .if1 .taken))
 
-is-utility-requires : tie.Need-is-utility-requires
-is-utility-requires c κs = search needs
-
 returns-2 : tie.Need-returns-2
 unfolding clashes
 returns-2 c = simp (lt-leb _ _ (c .before .before .if1 .left), sym (c .before .is-utility .ensures) ∙ c .if2 .taken)
-
-is-mapped-requires : tie.Need-is-mapped-requires
-is-mapped-requires c κs = search needs
 
 returns-3 : tie.Need-returns-3
 unfolding clashes
@@ -32,9 +26,6 @@ returns-4 c =
     let u = c .before .before .before .before in
     simp (lt-leb _ _ (u .before .if1 .left), sym (u .is-utility .ensures) ∙ c .before .before .before .if2 .left, sym (c .before .before .is-mapped .ensures) ∙ c .before .if3 .left, c .before .before .before .before .before .before .before .pre .unmarked (c .if4 .taken))
 
-is-listed-requires : tie.Need-is-listed-requires
-is-listed-requires c κs = search needs
-
 returns-5 : tie.Need-returns-5
 unfolding clashes
 returns-5 c =
@@ -46,10 +37,10 @@ clashes-spec =
     tie.close
     (tie.spec
     returns
-    is-utility-requires
+    (λ c κs. search needs)
     returns-2
-    is-mapped-requires
+    (λ c κs. search needs)
     returns-3
     returns-4
-    is-listed-requires
+    (λ c κs. search needs)
     returns-5)

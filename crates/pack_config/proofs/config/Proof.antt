@@ -9,29 +9,8 @@ use borrow.Author.Needs.{needs}
 use Rattle.pack_config.proofs.config.Statement.{statement}
 use Rattle.pack_config.proofs.config.Tie as tie
 
-refuse-requires : tie.Need-refuse-requires
-refuse-requires c κs = search needs
-
 returns : tie.Need-returns
 returns c = read-refused (maps-short _ _ _ _ (c .before .if1 .taken)) (c .refuse .ensures)
-
-add-end : tie.Need-add-end
-add-end c = search needs
-
-sub-mappings : tie.Need-sub-mappings
-sub-mappings c = search needs
-
-part-mappings-start : tie.Need-part-mappings-start
-part-mappings-start c = search needs
-
-part-mappings-end : tie.Need-part-mappings-end
-part-mappings-end c = search needs
-
-add-mappings : tie.Need-add-mappings
-add-mappings c = search needs
-
-mappings-requires : tie.Need-mappings-requires
-mappings-requires c κs = search needs
 
 returns-2 : tie.Need-returns-2
 returns-2 c =
@@ -42,12 +21,12 @@ pub config-spec : {M : Type 1} → statement M
 config-spec =
     tie.close
     (tie.spec
-    refuse-requires
+    (λ c κs. search needs)
     returns
-    add-end
-    sub-mappings
-    part-mappings-start
-    part-mappings-end
-    add-mappings
-    mappings-requires
+    (λ c. search needs)
+    (λ c. search needs)
+    (λ c. search needs)
+    (λ c. search needs)
+    (λ c. search needs)
+    (λ c κs. search needs)
     returns-2)

@@ -8,20 +8,8 @@ use Rattle.pack_config.proofs.first_at.Tie as tie
 returns : tie.Need-returns
 returns c = first-past _ _ (c .if1 .taken)
 
-shared-slice-read-if2 : tie.Need-shared-slice-read-if2
-shared-slice-read-if2 c = search needs
-
 returns-2 : tie.Need-returns-2
 returns-2 c = first-other _ _ (λ i. c .before .shared-slice-known2 .given i .fits) (c .if2 .taken)
-
-payload-at-requires : tie.Need-payload-at-requires
-payload-at-requires c κs = search needs
-
-enum-told : tie.Need-enum-told
-enum-told c = search needs
-
-enum-known-found : tie.Need-enum-known-found
-enum-known-found c = search needs
 
 returns-3 : tie.Need-returns-3
 returns-3 c = first-wrong _ _ _ (sym (c .before .before .payload-at .ensures) ∙ c .enum-told .given .1)
@@ -34,10 +22,10 @@ first-at-spec =
     tie.close
     (tie.spec
     returns
-    shared-slice-read-if2
+    (λ c. search needs)
     returns-2
-    payload-at-requires
-    enum-told
-    enum-known-found
+    (λ c κs. search needs)
+    (λ c. search needs)
+    (λ c. search needs)
     returns-3
     returns-4)

@@ -52,9 +52,6 @@ returns c =
 add-i : tie.Need-add-i Inv-loop μ-loop
 add-i c = omega (arith, c .before .before .before .before .before .before .pre .0 .few)
 
-loop-less : tie.Need-loop-less Inv-loop μ-loop
-loop-less c = omega arith
-
 loop-again : tie.Need-loop-again Inv-loop μ-loop
 loop-again c =
     let l = c .before .before .before .before .loop in
@@ -82,6 +79,6 @@ is-listed-spec =
     same-label-requires
     returns
     add-i
-    loop-less
+    (λ c. omega arith)
     loop-again
     returns-2)

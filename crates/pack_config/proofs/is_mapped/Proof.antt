@@ -5,15 +5,6 @@ use borrow.Author.Needs.{needs}
 use Rattle.pack_config.proofs.is_mapped.Statement.{statement}
 use Rattle.pack_config.proofs.is_mapped.Tie as tie
 
-name-by-requires : tie.Need-name-by-requires
-name-by-requires c κs = search needs
-
-enum-told : tie.Need-enum-told
-enum-told c = search needs
-
-enum-told-2 : tie.Need-enum-told-2
-enum-told-2 c = search needs
-
 returns : tie.Need-returns
 returns c = among-label _ _ _ (sym (c .before .before .name-by .ensures) ∙ c .enum-told .given .1)
 
@@ -21,4 +12,4 @@ returns-2 : tie.Need-returns-2
 returns-2 c = among-number _ _ _ (sym (c .before .before .name-by .ensures) ∙ c .enum-told2 .given .1)
 
 pub is-mapped-spec : {M : Type 1} → statement M
-is-mapped-spec = tie.close (tie.spec name-by-requires enum-told enum-told-2 returns returns-2)
+is-mapped-spec = tie.close (tie.spec (λ c κs. search needs) (λ c. search needs) (λ c. search needs) returns returns-2)

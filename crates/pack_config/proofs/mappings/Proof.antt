@@ -29,20 +29,8 @@ tagged c = sym (c .before .before .read-tag .ensures) ∙ c .t .given .1
 loop-holds : tie.Need-loop-holds Inv-loop μ-loop
 loop-holds c = λ k h. sofar-begins _ _ _ k (c .before .pre .1) h
 
-refuse-requires : tie.Need-refuse-requires Inv-loop μ-loop
-refuse-requires c κs = search needs
-
 returns : tie.Need-returns Inv-loop μ-loop
 returns c = λ k h. let g = c .before .before .before .loop .inv k h in sofar-stops g (c .before .before .loop-test .taken) (mapping-count _ _ _ _ (omega (arith, g .long))) (c .refuse .ensures)
-
-read-tag-requires : tie.Need-read-tag-requires Inv-loop μ-loop
-read-tag-requires c κs = search needs
-
-enum-told : tie.Need-enum-told Inv-loop μ-loop
-enum-told c = search needs
-
-refuse-requires-2 : tie.Need-refuse-requires-2 Inv-loop μ-loop
-refuse-requires-2 c κs = search needs
 
 returns-2 : tie.Need-returns-2 Inv-loop μ-loop
 returns-2 c =
@@ -52,12 +40,6 @@ returns-2 c =
     let g = l .before .before .loop .inv k h in
     sofar-stops g (l .before .loop-test .taken) (mapping-bad _ _ _ _ (room g (l .before .loop-test .taken) (l .if1 .left)) (sym (r .read-tag .ensures) ∙ c .before .enum-told .given .1)) (c .refuse2 .ensures)
 
-enum-told-2 : tie.Need-enum-told-2 Inv-loop μ-loop
-enum-told-2 c = search needs
-
-refuse-requires-3 : tie.Need-refuse-requires-3 Inv-loop μ-loop
-refuse-requires-3 c κs = search needs
-
 returns-3 : tie.Need-returns-3 Inv-loop μ-loop
 returns-3 c =
     let r = c .before .before .before in
@@ -66,14 +48,8 @@ returns-3 c =
     let g = l .before .before .loop .inv k h in
     sofar-stops g (l .before .loop-test .taken) (mapping-cut _ _ _ _ (room g (l .before .loop-test .taken) (l .if1 .left)) (sym (r .read-tag .ensures) ∙ c .before .enum-told2 .given .1)) (c .refuse3 .ensures)
 
-enum-known-t : tie.Need-enum-known-t Inv-loop μ-loop
-enum-known-t c = search needs
-
 sub-if2 : tie.Need-sub-if2 Inv-loop μ-loop
 sub-if2 c = tag-next _ _ _ _ (tagged (c .before)) .1
-
-refuse-requires-4 : tie.Need-refuse-requires-4 Inv-loop μ-loop
-refuse-requires-4 c κs = search needs
 
 returns-4 : tie.Need-returns-4 Inv-loop μ-loop
 returns-4 c =
@@ -96,9 +72,6 @@ clashes-requires c κs =
     let l = t .before .before .before .before .before in
     let n = tag-next _ _ _ _ (tagged t) in
     sofar-judging (l .loop .inv (length (now (l .before .before .args .c))) (omega arith)) (t .t .given .0 .1 .0) (omega (arith, d .before .if2 .left)) (d .digest .ensures .0) refl
-
-refuse-requires-5 : tie.Need-refuse-requires-5 Inv-loop μ-loop
-refuse-requires-5 c κs = search needs
 
 returns-5 : tie.Need-returns-5 Inv-loop μ-loop
 returns-5 c =
@@ -136,12 +109,6 @@ add-at c = omega (arith, tag-next _ _ _ _ (tagged (c .before .before .before .be
 cast-known : tie.Need-cast-known Inv-loop μ-loop
 cast-known c = omega (arith, c .before .before .before .before .before .before .before .before .before .before .before .before .if1 .left)
 
-cast-known-2 : tie.Need-cast-known-2 Inv-loop μ-loop
-cast-known-2 c = omega arith
-
-element-write-known : tie.Need-element-write-known Inv-loop μ-loop
-element-write-known c = omega arith
-
 loop-less : tie.Need-loop-less Inv-loop μ-loop
 loop-less c = omega (arith, tag-next _ _ _ _ (tagged (c .before .before .before .before .before .before .before .before .before)) .0, c .before .before .before .before .before .before .before .before .before .before .before .before .before .loop-test .taken)
 
@@ -176,23 +143,23 @@ mappings-spec =
     Inv-loop
     μ-loop
     loop-holds
-    refuse-requires
+    (λ c κs. search needs)
     returns
-    read-tag-requires
-    enum-told
-    refuse-requires-2
+    (λ c κs. search needs)
+    (λ c. search needs)
+    (λ c κs. search needs)
     returns-2
-    enum-told-2
-    refuse-requires-3
+    (λ c. search needs)
+    (λ c κs. search needs)
     returns-3
-    enum-known-t
+    (λ c. search needs)
     sub-if2
-    refuse-requires-4
+    (λ c κs. search needs)
     returns-4
     digest-requires
     array-read-clashes
     clashes-requires
-    refuse-requires-5
+    (λ c κs. search needs)
     returns-5
     mul-tags
     element-write-tags
@@ -203,8 +170,8 @@ mappings-spec =
     add-mapped
     add-at
     cast-known
-    cast-known-2
-    element-write-known
+    (λ c. omega arith)
+    (λ c. omega arith)
     loop-less
     loop-again
     loop-less-2

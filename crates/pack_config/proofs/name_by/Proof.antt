@@ -7,37 +7,22 @@ use borrow.Author.Needs.{needs}
 use Rattle.pack_config.proofs.name_by.Statement.{statement}
 use Rattle.pack_config.proofs.name_by.Tie as tie
 
-element-copy-out-index : tie.Need-element-copy-out-index
-element-copy-out-index c = search needs
-
 returns : tie.Need-returns
 returns c = index-none _ _ (c .if2 .taken) ∙ sym (c .before .before .before .pre .1 _ (c .before .before .if1 .taken))
-
-wide-requires : tie.Need-wide-requires
-wide-requires c κs = search needs
-
-sub-t13 : tie.Need-sub-t13
-sub-t13 c = search needs
 
 returns-2 : tie.Need-returns-2
 returns-2 c =
     let d = c .before in
     ap (λ (k : ℕ). Label (k - 1)) (c .wide .ensures) ∙ index-some _ _ (d .if2 .left) ∙ sym (d .before .before .before .pre .1 _ (d .before .before .if1 .taken))
 
-name-of-requires : tie.Need-name-of-requires
-name-of-requires c κs = search needs
-
-returns-3 : tie.Need-returns-3
-returns-3 c = search needs
-
 pub name-by-spec : {M : Type 1} → statement M
 name-by-spec =
     tie.close
     (tie.spec
-    element-copy-out-index
+    (λ c. search needs)
     returns
-    wide-requires
-    sub-t13
+    (λ c κs. search needs)
+    (λ c. search needs)
     returns-2
-    name-of-requires
-    returns-3)
+    (λ c κs. search needs)
+    (λ c. search needs))

@@ -5,15 +5,6 @@ use borrow.Author.Needs.{needs}
 use Rattle.pack_read.proofs.check.Statement.{statement}
 use Rattle.pack_read.proofs.check.Tie as tie
 
-open-requires : tie.Need-open-requires
-open-requires c κs = search needs
-
-enum-known-opened : tie.Need-enum-known-opened
-enum-known-opened c = search needs
-
-enum-known-opened-2 : tie.Need-enum-known-opened-2
-enum-known-opened-2 c = search needs
-
 count-items-requires : tie.Need-count-items-requires
 count-items-requires c κs = opened-small _ (c .before .before .before .«open» .ensures) (c .before .opened2 .given .1)
 
@@ -27,9 +18,9 @@ pub check-spec : {M : Type 1} → statement M
 check-spec =
     tie.close
     (tie.spec
-    open-requires
-    enum-known-opened
-    enum-known-opened-2
+    (λ c κs. search needs)
+    (λ c. search needs)
+    (λ c. search needs)
     count-items-requires
     returns
     returns-2)

@@ -30,25 +30,13 @@ whole c = sym (c .before .before .inner-at .ensures) ∙ c .found2 .given .1
 loop-holds : tie.Need-loop-holds Inv-loop μ-loop
 loop-holds c = λ tags k h. record { xs = []; inside = inside-begins _ tags _ k _ (c .before .pre .0) h }
 
-inner-at-requires : tie.Need-inner-at-requires Inv-loop μ-loop
-inner-at-requires c κs = search needs
-
-enum-known-found : tie.Need-enum-known-found Inv-loop μ-loop
-enum-known-found c = search needs
-
 add-refuse : tie.Need-add-refuse Inv-loop μ-loop
 add-refuse c = omega (arith, c .before .before .before .before .before .before .before .pre .1, c .before .before .before .before .loop-test .taken)
-
-refuse-requires : tie.Need-refuse-requires Inv-loop μ-loop
-refuse-requires c κs = search needs
 
 returns : tie.Need-returns Inv-loop μ-loop
 returns c =
     let f = c .before .before in
     λ tags. inside-refused (f .before .before .before .before .loop .inv tags) (f .before .before .before .loop-test .taken) (sym (f .before .before .inner-at .ensures) ∙ f .found .given .1) (c .refuse .ensures)
-
-enum-known-found-2 : tie.Need-enum-known-found-2 Inv-loop μ-loop
-enum-known-found-2 c = search needs
 
 add-n : tie.Need-add-n Inv-loop μ-loop
 add-n c = let w = inner-within _ _ _ _ _ _ (whole (c .before)) in omega (arith, w .room)
@@ -74,12 +62,12 @@ count-inside-spec =
     Inv-loop
     μ-loop
     loop-holds
-    inner-at-requires
-    enum-known-found
+    (λ c κs. search needs)
+    (λ c. search needs)
     add-refuse
-    refuse-requires
+    (λ c κs. search needs)
     returns
-    enum-known-found-2
+    (λ c. search needs)
     add-n
     add-at
     loop-less

@@ -44,22 +44,10 @@ opens c = sym (c .before .before .item-at .ensures) ∙ c .step4 .given .1
 loop-holds : tie.Need-loop-holds Inv-loop μ-loop
 loop-holds c = λ tags. record { parts = []; coming = coming-begins _ tags _ }
 
-item-at-requires : tie.Need-item-at-requires Inv-loop μ-loop
-item-at-requires c κs = search needs
-
-enum-known-step : tie.Need-enum-known-step Inv-loop μ-loop
-enum-known-step c = search needs
-
-refuse-requires : tie.Need-refuse-requires Inv-loop μ-loop
-refuse-requires c κs = search needs
-
 returns : tie.Need-returns Inv-loop μ-loop
 returns c =
     let f = c .before .before in
     λ tags. answers counted (coming-bad (f .before .before .before .before .loop .inv tags .coming) (f .before .before .before .loop-test .taken) (sym (f .before .before .item-at .ensures) ∙ f .step .given .1)) (c .refuse .ensures)
-
-enum-known-step-2 : tie.Need-enum-known-step-2 Inv-loop μ-loop
-enum-known-step-2 c = search needs
 
 crc-good-requires : tie.Need-crc-good-requires Inv-loop μ-loop
 crc-good-requires c κs = omega (arith, close-ends _ _ _ _ (closes (c .before)))
@@ -71,17 +59,11 @@ returns-2 c =
     let g = f .before .before .before .before .loop .inv tags .coming in
     counts counted (coming-good g (f .before .before .before .loop-test .taken) (closes f) (sym (c .before .crc-good .ensures) ∙ c .if1 .taken)) (ap A.Done (sym (g .long)))
 
-refuse-requires-2 : tie.Need-refuse-requires-2 Inv-loop μ-loop
-refuse-requires-2 c κs = search needs
-
 returns-3 : tie.Need-returns-3 Inv-loop μ-loop
 returns-3 c =
     let f = c .before .before .before .before in
     λ tags.
     answers counted (coming-crc (f .before .before .before .before .loop .inv tags .coming) (f .before .before .before .loop-test .taken) (closes f) (sym (c .before .before .crc-good .ensures) ∙ c .before .if1 .left)) (c .refuse2 .ensures)
-
-enum-known-step-3 : tie.Need-enum-known-step-3 Inv-loop μ-loop
-enum-known-step-3 c = search needs
 
 add-n : tie.Need-add-n Inv-loop μ-loop
 add-n c = omega (arith, plain-fits _ _ _ _ _ _ (plain (c .before)) .room)
@@ -94,9 +76,6 @@ loop-less c = let f = plain-fits _ _ _ _ _ _ (plain (c .before)) in omega (arith
 
 loop-again : tie.Need-loop-again Inv-loop μ-loop
 loop-again c = let f = c .before in λ tags. record { parts = _; coming = coming-plain (f .before .before .before .before .loop .inv tags .coming) (f .before .before .before .loop-test .taken) (plain f) }
-
-enum-known-step-4 : tie.Need-enum-known-step-4 Inv-loop μ-loop
-enum-known-step-4 c = search needs
 
 add-base : tie.Need-add-base Inv-loop μ-loop
 add-base c = let f = open-fits _ _ _ _ _ (opens (c .before)) in omega (arith, f .0 .inside, f .1, c .before .before .before .before .before .before .before .pre)
@@ -123,20 +102,11 @@ count-inside-requires c κs =
     let l = ap length (inside-part s (c .before .before .step4 .given .0 .0) (c .before .before .step4 .given .0 .1 .0)) in
     (omega (arith, f .0 .room), omega (arith, l, inside-long s (c .before .before .step4 .given .0 .0) (c .before .before .step4 .given .0 .1 .0) (f .0 .inside) (f .1), f .0 .inside, c .before .before .before .before .before .before .before .before .pre))
 
-enum-known-inside : tie.Need-enum-known-inside Inv-loop μ-loop
-enum-known-inside c = search needs
-
 returns-4 : tie.Need-returns-4 Inv-loop μ-loop
 returns-4 c =
     let k = c .before .before .before in
     let f = k .before .before .before in
     λ tags. answers counted (sync-refused (f .before .before .before .before .loop .inv tags .coming) (f .before .before .before .loop-test .taken) (opens f) (k .count-inside .ensures tags) (c .before .inside .given .1)) refl
-
-enum-known-inside-2 : tie.Need-enum-known-inside-2 Inv-loop μ-loop
-enum-known-inside-2 c = search needs
-
-refuse-requires-3 : tie.Need-refuse-requires-3 Inv-loop μ-loop
-refuse-requires-3 c κs = search needs
 
 returns-5 : tie.Need-returns-5 Inv-loop μ-loop
 returns-5 c =
@@ -166,21 +136,21 @@ count-items-spec =
     Inv-loop
     μ-loop
     loop-holds
-    item-at-requires
-    enum-known-step
-    refuse-requires
+    (λ c κs. search needs)
+    (λ c. search needs)
+    (λ c κs. search needs)
     returns
-    enum-known-step-2
+    (λ c. search needs)
     crc-good-requires
     returns-2
-    refuse-requires-2
+    (λ c κs. search needs)
     returns-3
-    enum-known-step-3
+    (λ c. search needs)
     add-n
     add-at
     loop-less
     loop-again
-    enum-known-step-4
+    (λ c. search needs)
     add-base
     add-end
     add-used
@@ -188,10 +158,10 @@ count-items-spec =
     part-count-inside-start
     part-count-inside-end
     count-inside-requires
-    enum-known-inside
+    (λ c. search needs)
     returns-4
-    enum-known-inside-2
-    refuse-requires-3
+    (λ c. search needs)
+    (λ c κs. search needs)
     returns-5
     loop-less-2
     loop-again-2

@@ -10,21 +10,6 @@ use borrow.Author.Needs.{needs}
 use Rattle.pack_read.proofs.crc_good.Statement.{statement}
 use Rattle.pack_read.proofs.crc_good.Tie as tie
 
-be32-requires : tie.Need-be32-requires
-be32-requires c κs = search needs
-
-sub-crc : tie.Need-sub-crc
-sub-crc c = search needs
-
-part-crc-start : tie.Need-part-crc-start
-part-crc-start c = search needs
-
-part-crc-end : tie.Need-part-crc-end
-part-crc-end c = search needs
-
-crc-requires : tie.Need-crc-requires
-crc-requires c κs = search needs
-
 returns : tie.Need-returns
 returns c =
     let a = c .before .before .before .before .args in
@@ -33,4 +18,4 @@ returns c =
 
 pub crc-good-spec : {M : Type 1} → statement M
 crc-good-spec =
-    tie.close (tie.spec be32-requires sub-crc part-crc-start part-crc-end crc-requires returns)
+    tie.close (tie.spec (λ c κs. search needs) (λ c. search needs) (λ c. search needs) (λ c. search needs) (λ c κs. search needs) returns)

@@ -16,26 +16,8 @@ Inv-loop slots items₀ i₀ items i = (i ≤ 64) × (items ≡ padded 64 blank 
 abbrev μ-loop : tie.MeasureT-loop
 μ-loop slots items₀ i₀ items i = 64 - i
 
-blanks-requires : tie.Need-blanks-requires Inv-loop μ-loop
-blanks-requires c κs = search needs
-
 loop-holds : tie.Need-loop-holds Inv-loop μ-loop
 loop-holds c = (omega arith, c .blanks .ensures)
-
-item-requires : tie.Need-item-requires Inv-loop μ-loop
-item-requires c κs = search needs
-
-mul-items : tie.Need-mul-items Inv-loop μ-loop
-mul-items c = search needs
-
-array-set-from-items : tie.Need-array-set-from-items Inv-loop μ-loop
-array-set-from-items c = search needs
-
-add-i : tie.Need-add-i Inv-loop μ-loop
-add-i c = search needs
-
-loop-less : tie.Need-loop-less Inv-loop μ-loop
-loop-less c = omega arith
 
 loop-again : tie.Need-loop-again Inv-loop μ-loop
 loop-again c =
@@ -51,12 +33,12 @@ listed-spec =
     (tie.spec
     Inv-loop
     μ-loop
-    blanks-requires
+    (λ c κs. search needs)
     loop-holds
-    item-requires
-    mul-items
-    array-set-from-items
-    add-i
-    loop-less
+    (λ c κs. search needs)
+    (λ c. search needs)
+    (λ c. search needs)
+    (λ c. search needs)
+    (λ c. omega arith)
     loop-again
     returns)

@@ -10,7 +10,7 @@ use Rattle.pack_config.specs.First.{firstAt}
 use Rattle.pack_config.specs.declared.First.the-variants as F
 use Rattle.pack_config.proofs.Openings.{first-within}
 use Rattle.refusals.proofs.Lent.{refused-was}
-use Rattle.pack.proofs.Outcomes.{number-of}
+use Rattle.refusals.proofs.Outcomes.{number-of}
 use Rattle.pack_read.proofs.Opening.{open-refused, open-without, open-stops, open-with, open-sized}
 use borrow.Author.Needs.{needs}
 use Rattle.pack_read.proofs.open.Statement.{statement}
@@ -24,32 +24,8 @@ started c = number-of _ (sym (c .start2 .given .1) ∙ c .before .before .value-
 configs : (c : tie.After-first) → firstAt (now (c .before .before .before .before .before .before .before .before .args .pack)) (c .before .before .before .before .start2 .given .0 .0) ≡ F.Config (c .first .given .0 .0) (c .first .given .0 .1 .0)
 configs c = sym (c .before .before .first-at .ensures) ∙ c .first .given .1
 
-value-start-requires : tie.Need-value-start-requires
-value-start-requires c κs = search needs
-
-enum-known-start : tie.Need-enum-known-start
-enum-known-start c = search needs
-
-enum-known-start-2 : tie.Need-enum-known-start-2
-enum-known-start-2 c = search needs
-
-first-at-requires : tie.Need-first-at-requires
-first-at-requires c κs = search needs
-
-enum-told : tie.Need-enum-told
-enum-told c = search needs
-
-enum-known-first : tie.Need-enum-known-first
-enum-known-first c = search needs
-
 config-requires : tie.Need-config-requires
 config-requires c κs = (first-within _ _ _ _ (configs (c .before .before .before .before)), start-small _ _ (started (c .before .before .before .before .before .before .before .before)), c .before .before .before .before .before .before .before .before .before .before .before .before .pre)
-
-enum-known-maps : tie.Need-enum-known-maps
-enum-known-maps c = search needs
-
-enum-known-maps-2 : tie.Need-enum-known-maps-2
-enum-known-maps-2 c = search needs
 
 be16-requires : tie.Need-be16-requires
 be16-requires c κs =
@@ -75,15 +51,15 @@ pub open-spec : {M : Type 1} → statement M
 open-spec =
     tie.close
     (tie.spec
-    value-start-requires
-    enum-known-start
-    enum-known-start-2
-    first-at-requires
-    enum-told
-    enum-known-first
+    (λ c κs. search needs)
+    (λ c. search needs)
+    (λ c. search needs)
+    (λ c κs. search needs)
+    (λ c. search needs)
+    (λ c. search needs)
     config-requires
-    enum-known-maps
-    enum-known-maps-2
+    (λ c. search needs)
+    (λ c. search needs)
     be16-requires
     add-t23
     returns

@@ -8,23 +8,8 @@ use borrow.Author.Needs.{needs}
 use Rattle.pack_read.proofs.read.Statement.{statement}
 use Rattle.pack_read.proofs.read.Tie as tie
 
-read-into-requires : tie.Need-read-into-requires
-read-into-requires c κs = search needs
-
-enum-known-answer : tie.Need-enum-known-answer
-enum-known-answer c = search needs
-
-refused-requires : tie.Need-refused-requires
-refused-requires c κs = search needs
-
 returns : tie.Need-returns
 returns c = c .refused .ensures ∙ ap shown (sym (outlined-none (c .before .before .before .before .read-into .ensures) (c .before .before .answer .given .1)))
-
-enum-told : tie.Need-enum-told
-enum-told c = search needs
-
-listed-requires : tie.Need-listed-requires
-listed-requires c κs = search needs
 
 returns-2 : tie.Need-returns-2
 returns-2 c =
@@ -36,10 +21,10 @@ pub read-spec : {M : Type 1} → statement M
 read-spec =
     tie.close
     (tie.spec
-    read-into-requires
-    enum-known-answer
-    refused-requires
+    (λ c κs. search needs)
+    (λ c. search needs)
+    (λ c κs. search needs)
     returns
-    enum-told
-    listed-requires
+    (λ c. search needs)
+    (λ c κs. search needs)
     returns-2)

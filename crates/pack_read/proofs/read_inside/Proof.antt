@@ -31,25 +31,13 @@ whole c = sym (c .before .before .inner-at .ensures) ∙ c .found2 .given .1
 loop-holds : tie.Need-loop-holds Inv-loop μ-loop
 loop-holds c = λ fuel h. filling-begins _ _ _ _ _ _ (c .before .pre .0) h
 
-inner-at-requires : tie.Need-inner-at-requires Inv-loop μ-loop
-inner-at-requires c κs = search needs
-
-enum-known-found : tie.Need-enum-known-found Inv-loop μ-loop
-enum-known-found c = search needs
-
 add-refuse : tie.Need-add-refuse Inv-loop μ-loop
 add-refuse c = omega (arith, c .before .before .before .before .before .before .before .pre .1, c .before .before .before .before .loop-test .taken)
-
-refuse-requires : tie.Need-refuse-requires Inv-loop μ-loop
-refuse-requires c κs = search needs
 
 returns : tie.Need-returns Inv-loop μ-loop
 returns c =
     let f = c .before .before in
     filling-stops (f .before .before .before .before .loop .inv) (f .before .before .before .loop-test .taken) (sym (f .before .before .inner-at .ensures) ∙ f .found .given .1) (c .refuse .ensures)
-
-enum-known-found-2 : tie.Need-enum-known-found-2 Inv-loop μ-loop
-enum-known-found-2 c = search needs
 
 add-payload : tie.Need-add-payload Inv-loop μ-loop
 add-payload c = omega (arith, c .before .before .before .before .before .before .before .pre .1, c .before .before .before .before .loop-test .taken)
@@ -90,12 +78,12 @@ read-inside-spec =
     Inv-loop
     μ-loop
     loop-holds
-    inner-at-requires
-    enum-known-found
+    (λ c κs. search needs)
+    (λ c. search needs)
     add-refuse
-    refuse-requires
+    (λ c κs. search needs)
     returns
-    enum-known-found-2
+    (λ c. search needs)
     add-payload
     add-payload-2
     payload-requires

@@ -4,18 +4,6 @@ use borrow.Author.Needs.{needs}
 use Rattle.pack_read.proofs.read_into.Statement.{statement}
 use Rattle.pack_read.proofs.read_into.Tie as tie
 
-open-requires : tie.Need-open-requires
-open-requires c κs = search needs
-
-enum-known-opened : tie.Need-enum-known-opened
-enum-known-opened c = search needs
-
-stopped-requires : tie.Need-stopped-requires
-stopped-requires c κs = search needs
-
-enum-known-opened-2 : tie.Need-enum-known-opened-2
-enum-known-opened-2 c = search needs
-
 read-items-requires : tie.Need-read-items-requires
 read-items-requires c κs =
     let o = c .before .before .before .before .before .before in
@@ -31,10 +19,10 @@ pub read-into-spec : {M : Type 1} → statement M
 read-into-spec =
     tie.close
     (tie.spec
-    open-requires
-    enum-known-opened
-    stopped-requires
-    enum-known-opened-2
+    (λ c κs. search needs)
+    (λ c. search needs)
+    (λ c κs. search needs)
+    (λ c. search needs)
     read-items-requires
     returns
     returns-2)

@@ -51,23 +51,11 @@ opens c = sym (c .before .before .item-at .ensures) ∙ c .step4 .given .1
 loop-holds : tie.Need-loop-holds Inv-loop μ-loop
 loop-holds c = listing-begins _ _ _ (ap slotsIn (c .before .pre .3) ∙ slots-none)
 
-item-at-requires : tie.Need-item-at-requires Inv-loop μ-loop
-item-at-requires c κs = search needs
-
-enum-known-step : tie.Need-enum-known-step Inv-loop μ-loop
-enum-known-step c = search needs
-
-stopped-requires : tie.Need-stopped-requires Inv-loop μ-loop
-stopped-requires c κs = search needs
-
 returns : tie.Need-returns Inv-loop μ-loop
 returns c =
     let f = c .before .before in
     let l = f .before .before .before in
     tells-refused _ _ _ _ (coming-bad (l .before .loop .inv .coming) (l .loop-test .taken) (sym (f .before .before .item-at .ensures) ∙ f .step .given .1)) (c .stopped .ensures)
-
-enum-known-step-2 : tie.Need-enum-known-step-2 Inv-loop μ-loop
-enum-known-step-2 c = search needs
 
 crc-good-requires : tie.Need-crc-good-requires Inv-loop μ-loop
 crc-good-requires c κs = omega (arith, close-ends _ _ _ _ (closes (c .before)))
@@ -82,17 +70,11 @@ returns-2 c =
     let g = l .before .loop .inv in
     tells-done (l .before .loop .slots) g _ _ _ (coming-good (g .coming) (l .loop-test .taken) (closes f) (sym (c .before .before .crc-good .ensures) ∙ c .before .if1 .taken)) (c .done .ensures)
 
-stopped-requires-2 : tie.Need-stopped-requires-2 Inv-loop μ-loop
-stopped-requires-2 c κs = search needs
-
 returns-3 : tie.Need-returns-3 Inv-loop μ-loop
 returns-3 c =
     let f = c .before .before .before .before in
     let l = f .before .before .before in
     tells-refused _ _ _ _ (coming-crc (l .before .loop .inv .coming) (l .loop-test .taken) (closes f) (sym (c .before .before .crc-good .ensures) ∙ c .before .if1 .left)) (c .stopped2 .ensures)
-
-enum-known-step-3 : tie.Need-enum-known-step-3 Inv-loop μ-loop
-enum-known-step-3 c = search needs
 
 payload-requires : tie.Need-payload-requires Inv-loop μ-loop
 payload-requires c κs =
@@ -117,9 +99,6 @@ loop-again c =
     let p = c .before .before .before .before in
     let l = p .before .before .before in
     listing-plain (l .before .loop .inv) (l .loop-test .taken) (plain p) (c .before .before .payload .ensures) (c .put .ensures)
-
-enum-known-step-4 : tie.Need-enum-known-step-4 Inv-loop μ-loop
-enum-known-step-4 c = search needs
 
 add-base : tie.Need-add-base Inv-loop μ-loop
 add-base c = let f = open-fits _ _ _ _ _ (opens (c .before)) in omega (arith, f .0 .inside, f .1, c .before .before .before .before .before .before .before .pre .0)
@@ -149,24 +128,12 @@ read-inside-requires c κs =
     let l = o .step4 .given .0 .1 .0 in
     (omega (arith, f .0 .room), omega (arith, ap length (inside-part s v l), inside-long s v l (f .0 .inside) (f .1), f .0 .inside, a .pre .0), a .pre .1, a .pre .2)
 
-enum-known-inside : tie.Need-enum-known-inside Inv-loop μ-loop
-enum-known-inside c = search needs
-
-stopped-requires-3 : tie.Need-stopped-requires-3 Inv-loop μ-loop
-stopped-requires-3 c κs = search needs
-
 returns-4 : tie.Need-returns-4 Inv-loop μ-loop
 returns-4 c =
     let k = c .before .before .before .before in
     let o = k .before .before .before .before in
     let l = o .before .before .before in
     tells-refused _ _ _ _ (sync-refused (l .before .loop .inv .coming) (l .loop-test .taken) (opens o) (k .read-inside .ensures .inside) (c .before .before .inside .given .1)) (c .stopped3 .ensures)
-
-enum-known-inside-2 : tie.Need-enum-known-inside-2 Inv-loop μ-loop
-enum-known-inside-2 c = search needs
-
-stopped-requires-4 : tie.Need-stopped-requires-4 Inv-loop μ-loop
-stopped-requires-4 c κs = search needs
 
 returns-5 : tie.Need-returns-5 Inv-loop μ-loop
 returns-5 c =
@@ -221,24 +188,24 @@ read-items-spec =
     Inv-loop
     μ-loop
     loop-holds
-    item-at-requires
-    enum-known-step
-    stopped-requires
+    (λ c κs. search needs)
+    (λ c. search needs)
+    (λ c κs. search needs)
     returns
-    enum-known-step-2
+    (λ c. search needs)
     crc-good-requires
     done-requires
     returns-2
-    stopped-requires-2
+    (λ c κs. search needs)
     returns-3
-    enum-known-step-3
+    (λ c. search needs)
     payload-requires
     put-requires
     add-n
     add-at
     loop-less
     loop-again
-    enum-known-step-4
+    (λ c. search needs)
     add-base
     add-end
     add-first
@@ -246,11 +213,11 @@ read-items-spec =
     part-read-inside-start
     part-read-inside-end
     read-inside-requires
-    enum-known-inside
-    stopped-requires-3
+    (λ c. search needs)
+    (λ c κs. search needs)
     returns-4
-    enum-known-inside-2
-    stopped-requires-4
+    (λ c. search needs)
+    (λ c κs. search needs)
     returns-5
     sub-head
     head-requires

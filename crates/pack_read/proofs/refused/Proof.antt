@@ -4,12 +4,9 @@ use borrow.Author.Needs.{needs}
 use Rattle.pack_read.proofs.refused.Statement.{statement}
 use Rattle.pack_read.proofs.refused.Tie as tie
 
-blanks-requires : tie.Need-blanks-requires
-blanks-requires c κs = search needs
-
 returns : tie.Need-returns
 unfolding shown
 returns c = rw (c .blanks .ensures)
 
 pub refused-spec : {M : Type 1} → statement M
-refused-spec = tie.close (tie.spec blanks-requires returns)
+refused-spec = tie.close (tie.spec (λ c κs. search needs) returns)

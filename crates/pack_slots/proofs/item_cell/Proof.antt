@@ -4,27 +4,6 @@ use Rattle.pack_slots.proofs.Cells.{cell-single, cell-inner, cell-sync}
 use Rattle.pack_slots.proofs.item_cell.Statement.{statement}
 use Rattle.pack_slots.proofs.item_cell.Tie as tie
 
-enum-known-item : tie.Need-enum-known-item
-enum-known-item c = search needs
-
-payload-cell-requires : tie.Need-payload-cell-requires
-payload-cell-requires c κs = search needs
-
-enum-known-item-2 : tie.Need-enum-known-item-2
-enum-known-item-2 c = search needs
-
-payload-cell-requires-2 : tie.Need-payload-cell-requires-2
-payload-cell-requires-2 c κs = search needs
-
-enum-known-item-3 : tie.Need-enum-known-item-3
-enum-known-item-3 c = search needs
-
-cast-t6 : tie.Need-cast-t6
-cast-t6 c = search needs
-
-cast-t7 : tie.Need-cast-t7
-cast-t7 c = search needs
-
 returns : tie.Need-returns
 returns c = cell-single _ (c .before .before .item .given .1) (c .payload-cell .ensures)
 
@@ -38,13 +17,13 @@ pub item-cell-spec : {M : Type 1} → statement M
 item-cell-spec =
     tie.close
     (tie.spec
-    enum-known-item
-    payload-cell-requires
-    enum-known-item-2
-    payload-cell-requires-2
-    enum-known-item-3
-    cast-t6
-    cast-t7
+    (λ c. search needs)
+    (λ c κs. search needs)
+    (λ c. search needs)
+    (λ c κs. search needs)
+    (λ c. search needs)
+    (λ c. search needs)
+    (λ c. search needs)
     returns
     returns-2
     returns-3)

@@ -7,36 +7,6 @@ use Rattle.pack.specs.declared.Name.{Name}
 use Rattle.pack_slots.proofs.payload_at.Statement.{statement}
 use Rattle.pack_slots.proofs.payload_at.Tie as tie
 
-name-at-requires : tie.Need-name-at-requires
-name-at-requires c κs = search needs
-
-add-t4 : tie.Need-add-t4
-add-t4 c = search needs
-
-mul-t5 : tie.Need-mul-t5
-mul-t5 c = search needs
-
-element-copy-out-t8 : tie.Need-element-copy-out-t8
-element-copy-out-t8 c = search needs
-
-add-t9 : tie.Need-add-t9
-add-t9 c = search needs
-
-mul-t10 : tie.Need-mul-t10
-mul-t10 c = search needs
-
-element-copy-out-t13 : tie.Need-element-copy-out-t13
-element-copy-out-t13 c = search needs
-
-add-t14 : tie.Need-add-t14
-add-t14 c = search needs
-
-mul-t15 : tie.Need-mul-t15
-mul-t15 c = search needs
-
-element-copy-out-t18 : tie.Need-element-copy-out-t18
-element-copy-out-t18 c = search needs
-
 returns : tie.Need-returns
 returns c =
     let a = c .before .before .before .before .args in
@@ -48,14 +18,14 @@ pub payload-at-spec : {M : Type 1} → statement M
 payload-at-spec =
     tie.close
     (tie.spec
-    name-at-requires
-    add-t4
-    mul-t5
-    element-copy-out-t8
-    add-t9
-    mul-t10
-    element-copy-out-t13
-    add-t14
-    mul-t15
-    element-copy-out-t18
+    (λ c κs. search needs)
+    (λ c. search needs)
+    (λ c. search needs)
+    (λ c. search needs)
+    (λ c. search needs)
+    (λ c. search needs)
+    (λ c. search needs)
+    (λ c. search needs)
+    (λ c. search needs)
+    (λ c. search needs)
     returns)

@@ -4,12 +4,6 @@ use Rattle.pack_slots.proofs.Cells.{cell-named}
 use Rattle.pack_slots.proofs.payload_cell.Statement.{statement}
 use Rattle.pack_slots.proofs.payload_cell.Tie as tie
 
-enum-known-name : tie.Need-enum-known-name
-enum-known-name c = search needs
-
-enum-known-name-2 : tie.Need-enum-known-name-2
-enum-known-name-2 c = search needs
-
 returns : tie.Need-returns
 returns c = cell-named _ _ _ (c .before .name .given .1)
 
@@ -17,4 +11,4 @@ returns-2 : tie.Need-returns-2
 returns-2 c = cell-named _ _ _ (c .before .name2 .given .1)
 
 pub payload-cell-spec : {M : Type 1} → statement M
-payload-cell-spec = tie.close (tie.spec enum-known-name enum-known-name-2 returns returns-2)
+payload-cell-spec = tie.close (tie.spec (λ c. search needs) (λ c. search needs) returns returns-2)

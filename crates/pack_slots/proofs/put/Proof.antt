@@ -8,15 +8,6 @@ use Rattle.pack_slots.proofs.Laws.{slots-put}
 use Rattle.pack_slots.proofs.put.Statement.{statement}
 use Rattle.pack_slots.proofs.put.Tie as tie
 
-item-cell-requires : tie.Need-item-cell-requires
-item-cell-requires c κs = search needs
-
-mul-put-cell : tie.Need-mul-put-cell
-mul-put-cell c = search needs
-
-put-cell-requires : tie.Need-put-cell-requires
-put-cell-requires c κs = search needs
-
 returns : tie.Need-returns
 returns c =
     let a = c .before .before .before .args in
@@ -25,4 +16,4 @@ returns c =
     ∙ slots-put (a .slots .now) (search needs) (a .n) (c .before .before .before .pre) (a .item) (r .1)
 
 pub put-spec : {M : Type 1} → statement M
-put-spec = tie.close (tie.spec item-cell-requires mul-put-cell put-cell-requires returns)
+put-spec = tie.close (tie.spec (λ c κs. search needs) (λ c. search needs) (λ c κs. search needs) returns)
