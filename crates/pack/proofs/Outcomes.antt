@@ -1,5 +1,5 @@
 -- Outcomes one after the other.
-use mathlib.Core.Path.{_≡_, refl, sym, ap, _∙_}
+use mathlib.Core.Path.{_≡_, refl, ap}
 use Prim.Native.Nat.{ℕ}
 use Rattle.runs.proofs.Cases.{absurd-eq}
 use Rattle.refusals.specs.declared.Refusal.{Refusal}
