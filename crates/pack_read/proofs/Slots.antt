@@ -4,7 +4,7 @@ use mathlib.Core.Path.{_≡_, refl, sym, ap, ap₂, _∙_}
 use mathlib.Core.List.{List, [], _∷_, _++_, map, append-assoc, append-nil}
 use native.Mathlib.Numerals.{add-one}
 use native.Mathlib.Omega.{arith}
-use lib.ListN.{length, set, take, replicate, length-append, length-map}
+use lib.ListN.{length, set, take, replicate, length-append}
 use lib.Seq.{sets, set-comm, take-all, take-suc, length-take-le}
 use Rattle.pack.specs.Items.{Part, one, many}
 use Rattle.pack.specs.Slots.{slot, slots, blank, padded}
