@@ -23,6 +23,7 @@ use Rattle.pack.specs.Said.{SaidPayload, SaidItem}
 use Rattle.pack.specs.Items.{Part, one, many}
 use Rattle.pack.specs.Slots.{slot, slots}
 use Rattle.pack.specs.Meaning.{stretch, meantName, meantPayload, meantPart}
+use Rattle.pack.proofs.Slots.{PartItems}
 use Rattle.pack_layout.specs.Layout.{Entry, element, elementsBytes, chunksBytes}
 use Rattle.runs.specs.Those.{those, Each}
 use Rattle.scrub_kept.specs.Sheet.{Sheet}
@@ -30,9 +31,9 @@ use Rattle.scrub_kept.specs.Kept.{keeps, keptPayloads, keptSync, keptItems}
 use Rattle.scrub_kept.specs.Written.{tagFor, asElement, asChunk}
 use Rattle.scrub_write.specs.declared.Op.{Op}
 use Rattle.scrub_write.specs.declared.Op.the-variants.{Skip, Put, Open}
-use Rattle.scrub_write.specs.Ops.{OpSlot, opBytes, opsBytes, OpFits, OpsFit}
+use Rattle.scrub_write.specs.Ops.{opBytes, opsBytes, OpFits}
 use Rattle.scrub_write.proofs.Ops.{value-length, put-size, open-size}
-use Rattle.scrub_plan.specs.Planned.{sized, stepOf, Planned, joined}
+use Rattle.scrub_plan.specs.Planned.{sized, slotPlan, Planned, joined}
 
 -- the plan by a tag for each name, 0 for one that goes
 abbrev pub tagItem : (Name → ℕ) → Item → ℕ
@@ -42,7 +43,7 @@ tagItem tag (I.Sync h) = 0
 
 unfoldable pub planBy : (Name → ℕ) → List Slot → Planned
 planBy tag [] = record { inner = 0; total = 0; ops = [] }
-planBy tag (x ∷ xs) = joined (stepOf (x .item) (tagItem tag (x .item)) ((planBy tag xs) .inner)) (planBy tag xs)
+planBy tag (x ∷ xs) = joined (slotPlan (x .item) (tagItem tag (x .item)) ((planBy tag xs) .inner)) (planBy tag xs)
 
 inners : List Payload → List Slot
 inners xs = map (λ (x : Payload). slot (I.Inner x)) xs
@@ -67,9 +68,10 @@ module _ (s : List ℕ) (labels : List (List ℕ)) (sh : Sheet) (ms : List Entry
     pub ends : x .«value_start» + x .«value_len» ≤ length s
     pub tagged : keeps sh (meantName labels (x .name)) ≡ true → (0 < tagFor ms (meantName labels (x .name))) × (tagFor ms (meantName labels (x .name)) < 128 ^ 4)
 
-  abbrev pub PartLies : Part → Type 0
-  PartLies (one x) = Lies x
-  PartLies (many h xs) = Each Lies xs
+  abbrev pub ItemLies : Item → Type 0
+  ItemLies (I.Single x) = Lies x
+  ItemLies (I.Inner x) = Lies x
+  ItemLies (I.Sync h) = Unit
 
   abbrev bytesOf : List Payload → List ℕ
   bytesOf xs = elementsBytes (map (asElement ms) (keptPayloads sh (map said xs)))
@@ -91,7 +93,7 @@ module _ (s : List ℕ) (labels : List (List ℕ)) (sh : Sheet) (ms : List Entry
     pub size : (planBy newTag (inners xs ++ rest)) .inner ≡ length (bytesOf xs) + (planBy newTag rest) .inner
 
   inside-flat : (xs : List Payload) (rest : List Slot) → Each Lies xs → Inside xs rest
-  unfolding planBy stepOf those elementsBytes opsBytes inners opBytes
+  unfolding planBy slotPlan those elementsBytes opsBytes inners opBytes
   inside-flat [] rest h = record { bytes = refl; size = let z : (planBy newTag rest) .inner ≡ 0 + (planBy newTag rest) .inner = omega arith in z }
   inside-flat (x ∷ xs) rest h =
       let i = inside-flat xs rest (h .1) in
@@ -119,9 +121,9 @@ module _ (s : List ℕ) (labels : List (List ℕ)) (sh : Sheet) (ms : List Entry
       let a = length-append u (v ++ pb) in let b = length-append v pb in let c = length-digits 256 2 o in let e = length-digits 256 2 d in omega arith in
       ap (λ (m : ℕ). (tagBytes 2 ++ (formBytes (shortest m) m ++ (u ++ v))) ++ (pb ++ rest)) n ∙ simp append-assoc
 
-  sync-flat : (o d n : ℕ) (ys : List SaidPayload) (ops : List OpSlot) (r : List SaidItem) → n ≡ length (elementsBytes (map (asElement ms) ys))
+  sync-flat : (o d n : ℕ) (ys : List SaidPayload) (ops : List Op) (r : List SaidItem) → n ≡ length (elementsBytes (map (asElement ms) ys))
       → opsBytes s ops ≡ elementsBytes (map (asElement ms) ys) ++ chunksBytes (map (asChunk ms) r)
-      → opsBytes s (record { op = cond (eqb n 0) Skip (Open n o d) } ∷ ops) ≡ chunksBytes (map (asChunk ms) (keptSync o d ys r))
+      → opsBytes s (cond (eqb n 0) Skip (Open n o d) ∷ ops) ≡ chunksBytes (map (asChunk ms) (keptSync o d ys r))
   unfolding keptSync elementsBytes chunksBytes opsBytes opBytes
   sync-flat o d n [] ops r e h = rw (eq-eqb n 0 e) h
   sync-flat o d n (y ∷ ys) ops r e h =
@@ -133,28 +135,28 @@ module _ (s : List ℕ) (labels : List (List ℕ)) (sh : Sheet) (ms : List Entry
       rw (ne-eqb n 0 z) (ap₂ (λ (m : ℕ) (l : List ℕ). opBytes s (Open m o d) ++ l) e h ∙ open-bytes o d p (chunksBytes (map (asChunk ms) r)))
 
   no-inner : (ps : List Part) → (planBy newTag (slots ps)) .inner ≡ 0
-  unfolding planBy slots stepOf
+  unfolding planBy slots slotPlan
   no-inner [] = refl
   no-inner (one x ∷ ps) = split (eqb (newTag (x .name)) 0) (λ a. rw a) (λ a. rw a)
   no-inner (many h xs ∷ ps) = split (eqb ((planBy newTag (map (λ (x : Payload). slot (I.Inner x)) xs ++ slots ps)) .inner) 0) (λ a. rw a) (λ a. rw a)
 
-  stays-op : (x : Payload) (t n : ℕ) → (t ≡ 0 → ⊥) → (stepOf (I.Single x) t n) .op ≡ Put t (x .«value_start») (x .«value_len»)
-  unfolding stepOf
+  stays-op : (x : Payload) (t n : ℕ) → (t ≡ 0 → ⊥) → (slotPlan (I.Single x) t n) .op ≡ Put t (x .«value_start») (x .«value_len»)
+  unfolding slotPlan
   stays-op x t n h = rw (ne-eqb t 0 h)
 
-  goes-bytes : (x : Payload) (n : ℕ) → opBytes s ((stepOf (I.Single x) 0 n) .op) ≡ []
-  unfolding stepOf opBytes
+  goes-bytes : (x : Payload) (n : ℕ) → opBytes s ((slotPlan (I.Single x) 0 n) .op) ≡ []
+  unfolding slotPlan opBytes
   goes-bytes x n = refl
 
   two-long : length (tagBytes 2) ≡ 1
   two-long = ap length (tag-short 2 (omega arith))
 
-  sync-op : (h : Head) (n : ℕ) → (stepOf (I.Sync h) 0 n) .op ≡ cond (eqb n 0) Skip (Open n (h .offset) (h .duration))
-  unfolding stepOf
+  sync-op : (h : Head) (n : ℕ) → (slotPlan (I.Sync h) 0 n) .op ≡ cond (eqb n 0) Skip (Open n (h .offset) (h .duration))
+  unfolding slotPlan
   sync-op h n = split (eqb n 0) (λ a. rw a) (λ a. rw a)
 
-  -- the writes of all rows are the bytes of the kept items
-  pub flat-items : (ps : List Part) → Each PartLies ps
+  -- the writes of all slots are the bytes of the kept items
+  pub flat-items : (ps : List Part) → Each (PartItems ItemLies) ps
       → opsBytes s ((planBy newTag (slots ps)) .ops) ≡ chunksBytes (map (asChunk ms) (keptItems sh (map (meantPart s labels) ps)))
   unfolding planBy slots keptItems chunksBytes opsBytes inners
   flat-items [] h = refl
@@ -168,7 +170,7 @@ module _ (s : List ℕ) (labels : List (List ℕ)) (sh : Sheet) (ms : List Entry
       rw (a, stays-op x t n nz) (ap₂ (λ (u v : List ℕ). u ++ v) (put-bytes x (h .0)) i))
       (λ a. rw (a, goes-bytes x n) i)
   flat-items (many hd xs ∷ ps) h =
-      let i = inside-flat xs (slots ps) (h .0) in
+      let i = inside-flat xs (slots ps) (h .0 .1) in
       let ys = keptPayloads sh (map said xs) in
       let n : (planBy newTag (inners xs ++ slots ps)) .inner ≡ length (elementsBytes (map (asElement ms) ys)) =
       let a = i .size in let b = no-inner ps in omega arith in
@@ -177,54 +179,36 @@ module _ (s : List ℕ) (labels : List (List ℕ)) (sh : Sheet) (ms : List Entry
       ∙ sync-flat (hd .offset) (hd .duration) m ys ((planBy newTag (inners xs ++ slots ps)) .ops) (keptItems sh (map (meantPart s labels) ps)) n
       (i .bytes ∙ ap (λ (l : List ℕ). elementsBytes (map (asElement ms) ys) ++ l) (flat-items ps (h .1)))
 
-  -- each row lies in the pack, and its tag can be written
-  abbrev pub ItemLies : Item → Type 0
-  ItemLies (I.Single x) = Lies x
-  ItemLies (I.Inner x) = Lies x
-  ItemLies (I.Sync h) = Unit
-
-  abbrev pub RowsLie : List Slot → Type 0
-  RowsLie [] = Unit
-  RowsLie (x ∷ r) = ItemLies (x .item) × RowsLie r
-
-  inners-lie : (xs : List Payload) (rest : List Slot) → Each Lies xs → RowsLie rest → RowsLie (inners xs ++ rest)
-  unfolding inners
-  inners-lie [] rest h g = g
-  inners-lie (x ∷ xs) rest h g = (h .0, inners-lie xs rest (h .1) g)
-
-  pub rows-lie : (ps : List Part) → Each PartLies ps → RowsLie (slots ps)
-  unfolding slots inners
-  rows-lie [] h = h
-  rows-lie (one x ∷ ps) h = (h .0, rows-lie ps (h .1))
-  rows-lie (many hd xs ∷ ps) h = (tt, inners-lie xs (slots ps) (h .0) (rows-lie ps (h .1)))
+  abbrev pub SlotLies : Slot → Type 0
+  SlotLies x = ItemLies (x .item)
 
   tag-high : (x : Payload) → Lies x → newTag (x .name) < 128 ^ 4
   tag-high x h = split (keeps sh (meantName labels (x .name))) (λ a. rw a (h .tagged a .1)) (λ a. rw a (omega arith))
 
-  step-size : (it : Item) (t n : ℕ) → ItemLies it → (stepOf it t n) .size ≡ length (opBytes s ((stepOf it t n) .op))
-  unfolding stepOf opBytes
-  step-size (I.Single x) t n h = split (eqb t 0) (λ a. rw a) (λ a. rw a (sym (put-size s t (x .«value_start») (x .«value_len») (h .ends))))
-  step-size (I.Inner x) t n h = split (eqb t 0) (λ a. rw a) (λ a. rw a (sym (put-size s t (x .«value_start») (x .«value_len») (h .ends))))
-  step-size (I.Sync hd) t n h =
+  plan-size : (it : Item) (t n : ℕ) → ItemLies it → (slotPlan it t n) .size ≡ length (opBytes s ((slotPlan it t n) .op))
+  unfolding slotPlan opBytes
+  plan-size (I.Single x) t n h = split (eqb t 0) (λ a. rw a) (λ a. rw a (sym (put-size s t (x .«value_start») (x .«value_len») (h .ends))))
+  plan-size (I.Inner x) t n h = split (eqb t 0) (λ a. rw a) (λ a. rw a (sym (put-size s t (x .«value_start») (x .«value_len») (h .ends))))
+  plan-size (I.Sync hd) t n h =
       split (eqb n 0)
       (λ a. rw a)
       (λ a. rw a (let z = open-size s n (hd .offset) (hd .duration) in let y = two-long in omega arith))
 
   -- what was added up is the size of the writes
-  pub total-size : (xs : List Slot) → RowsLie xs → (planBy newTag xs) .total ≡ length (opsBytes s ((planBy newTag xs) .ops))
+  pub total-size : (xs : List Slot) → Each SlotLies xs → (planBy newTag xs) .total ≡ length (opsBytes s ((planBy newTag xs) .ops))
   unfolding planBy opsBytes
   total-size [] h = refl
   total-size (x ∷ xs) h =
       let p = planBy newTag xs in
-      let st = stepOf (x .item) (tagItem newTag (x .item)) (p .inner) in
-      ap₂ (λ (a b : ℕ). a + b) (step-size (x .item) (tagItem newTag (x .item)) (p .inner) (h .0)) (total-size xs (h .1))
+      let st = slotPlan (x .item) (tagItem newTag (x .item)) (p .inner) in
+      ap₂ (λ (a b : ℕ). a + b) (plan-size (x .item) (tagItem newTag (x .item)) (p .inner) (h .0)) (total-size xs (h .1))
       ∙ sym (length-append (opBytes s (st .op)) (opsBytes s (p .ops)))
 
-  step-inner : (it : Item) (t n : ℕ) → (stepOf it t n) .inner ≤ n + (stepOf it t n) .size
-  unfolding stepOf
-  step-inner (I.Single x) t n = split (eqb t 0) (λ a. rw a (omega arith)) (λ a. rw a (omega arith))
-  step-inner (I.Inner x) t n = split (eqb t 0) (λ a. rw a (omega arith)) (λ a. rw a (omega arith))
-  step-inner (I.Sync hd) t n = split (eqb n 0) (λ a. rw a (omega arith)) (λ a. rw a (omega arith))
+  plan-inner : (it : Item) (t n : ℕ) → (slotPlan it t n) .inner ≤ n + (slotPlan it t n) .size
+  unfolding slotPlan
+  plan-inner (I.Single x) t n = split (eqb t 0) (λ a. rw a (omega arith)) (λ a. rw a (omega arith))
+  plan-inner (I.Inner x) t n = split (eqb t 0) (λ a. rw a (omega arith)) (λ a. rw a (omega arith))
+  plan-inner (I.Sync hd) t n = split (eqb n 0) (λ a. rw a (omega arith)) (λ a. rw a (omega arith))
 
   inner-most : (xs : List Slot) → (planBy newTag xs) .inner ≤ (planBy newTag xs) .total
   unfolding planBy
@@ -232,17 +216,17 @@ module _ (s : List ℕ) (labels : List (List ℕ)) (sh : Sheet) (ms : List Entry
   inner-most (x ∷ xs) =
       let p = planBy newTag xs in
       let i = inner-most xs in
-      let j = step-inner (x .item) (tagItem newTag (x .item)) (p .inner) in
+      let j = plan-inner (x .item) (tagItem newTag (x .item)) (p .inner) in
       omega arith
 
-  op-fits : (it : Item) (n : ℕ) → ItemLies it → n < 3000000 → OpFits s ((stepOf it (tagItem newTag it) n) .op)
-  unfolding stepOf
+  op-fits : (it : Item) (n : ℕ) → ItemLies it → n < 3000000 → OpFits s ((slotPlan it (tagItem newTag it) n) .op)
+  unfolding slotPlan
   op-fits (I.Single x) n h b = split (eqb (newTag (x .name)) 0) (λ a. rw a tt) (λ a. rw a (tag-high x h, h .ends))
   op-fits (I.Inner x) n h b = split (eqb (newTag (x .name)) 0) (λ a. rw a tt) (λ a. rw a (tag-high x h, h .ends))
   op-fits (I.Sync hd) n h b = split (eqb n 0) (λ a. rw a tt) (λ a. rw a (let z : 4 + n < 2 ^ 32 = omega arith in z))
 
   -- the writes can be made
-  pub ops-fit : (xs : List Slot) → RowsLie xs → (planBy newTag xs) .total < 3000000 → OpsFit s ((planBy newTag xs) .ops)
+  pub ops-fit : (xs : List Slot) → Each SlotLies xs → (planBy newTag xs) .total < 3000000 → Each (OpFits s) ((planBy newTag xs) .ops)
   unfolding planBy
   ops-fit [] h b = tt
   ops-fit (x ∷ xs) h b =

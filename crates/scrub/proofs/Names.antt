@@ -1,8 +1,8 @@
--- Marked rows and the names of kept payloads: what the marks say, and the tags that the plan goes by.
+-- Marked slots and the names of kept payloads: what the marks say, and the tags that the plan goes by.
 use mathlib.Core.Path.{_≡_, refl, sym, ap, _∙_}
 use mathlib.Core.List.{List, [], _∷_, _++_, map}
 use mathlib.Core.Bool.{Bool, true, false, cond}
-use Prim.Native.Nat.{ℕ, zero, suc, _+_, _<_}
+use Prim.Native.Nat.{ℕ, zero, suc, _<_}
 use native.Mathlib.Omega.{arith}
 use lib.Dec.{eqb}
 use lib.ListN.{length, getD}
@@ -20,6 +20,7 @@ use Rattle.pack.specs.Said.{SaidName, label, number, SaidPayload, SaidItem, nam
 use Rattle.pack.specs.Items.{Part, one, many}
 use Rattle.pack.specs.Slots.{slot, slots}
 use Rattle.pack.specs.Meaning.{meantName, meantPayload, meantPart}
+use Rattle.pack.proofs.Slots.{PartItems}
 use Rattle.pack_layout.specs.Layout.{Entry}
 use Rattle.runs.specs.Those.{those, Each}
 use Rattle.scrub_kept.specs.Sheet.{Sheet}
@@ -29,8 +30,8 @@ use Rattle.scrub_kept.proofs.Listed.{never, listed-here, listed-more}
 use Rattle.scrub_kept.proofs.Labels.{LabelsApart}
 use Rattle.scrub_names.specs.declared.Mark.{Mark}
 use Rattle.scrub_names.specs.declared.Mark.the-variants as M
-use Rattle.scrub_names.specs.Marks.{Marked, markName, markItem, marksOf, numbersOf, labelsOf, marked}
-use Rattle.scrub_plan.specs.Planned.{tagOf, stepOf, Planned, joined, planned}
+use Rattle.scrub_names.specs.Marks.{markName, markItem, marksOf, keptNumbers, keptLabels}
+use Rattle.scrub_plan.specs.Planned.{tagOf, slotPlan, Planned, joined, planned}
 use Rattle.scrub.proofs.Flat.{tagItem, planBy, newTag}
 
 -- a label is one of so many mappings
@@ -43,9 +44,10 @@ MarkBelow n M.Gone = Unit
 MarkBelow n (M.Number t) = Unit
 MarkBelow n (M.Label i) = i < n
 
-abbrev pub PartBelow : ℕ → Part → Type 0
-PartBelow n (one x) = Below n (x .name)
-PartBelow n (many h xs) = Each (λ (x : Payload). Below n (x .name)) xs
+abbrev pub ItemBelow : ℕ → Item → Type 0
+ItemBelow n (I.Single x) = Below n (x .name)
+ItemBelow n (I.Inner x) = Below n (x .name)
+ItemBelow n (I.Sync h) = Unit
 
 -- LABELS APART
 
@@ -84,16 +86,16 @@ saying labels (M.Gone ∷ r) = saying labels r
 saying labels (M.Number t ∷ r) = number t ∷ saying labels r
 saying labels (M.Label i ∷ r) = label (getD labels i []) ∷ saying labels r
 
-pub saying-numbers : (labels : List (List ℕ)) (ms : List Mark) → numbersIn (saying labels ms) ≡ numbersOf ms
-unfolding saying numbersIn numbersOf
+pub saying-numbers : (labels : List (List ℕ)) (ms : List Mark) → numbersIn (saying labels ms) ≡ keptNumbers ms
+unfolding saying numbersIn keptNumbers
 saying-numbers labels [] = refl
 saying-numbers labels (M.Gone ∷ r) = saying-numbers labels r
 saying-numbers labels (M.Number t ∷ r) = ap (λ (l : List ℕ). t ∷ l) (saying-numbers labels r)
 saying-numbers labels (M.Label i ∷ r) = saying-numbers labels r
 
 pub saying-labels : (labels : List (List ℕ)) (apart : LabelsApart labels) (seen : List ℕ) (ms : List Mark) → Each (λ (j : ℕ). j < length labels) seen
-    → Each (MarkBelow (length labels)) ms → labelsIn (map (at labels apart) seen) (saying labels ms) ≡ map (at labels apart) (labelsOf seen ms)
-unfolding saying labelsIn labelsOf
+    → Each (MarkBelow (length labels)) ms → labelsIn (map (at labels apart) seen) (saying labels ms) ≡ map (at labels apart) (keptLabels seen ms)
+unfolding saying labelsIn keptLabels
 saying-labels labels apart seen [] h g = refl
 saying-labels labels apart seen (M.Gone ∷ r) h g = saying-labels labels apart seen r h (g .1)
 saying-labels labels apart seen (M.Number t ∷ r) h g = saying-labels labels apart seen r h (g .1)
@@ -103,8 +105,8 @@ saying-labels labels apart seen (M.Label i ∷ r) h g =
     (λ e. rw (listed-among labels apart i seen (g .0) h, e) (ap (λ (l : List (List ℕ)). getD labels i [] ∷ l) (saying-labels labels apart (i ∷ seen) r (g .0, h) (g .1))))
 
 -- labels in order are labels of marks
-pub order-below : (n : ℕ) (seen : List ℕ) (ms : List Mark) → Each (MarkBelow n) ms → Each (λ (j : ℕ). j < n) (labelsOf seen ms)
-unfolding labelsOf
+pub order-below : (n : ℕ) (seen : List ℕ) (ms : List Mark) → Each (MarkBelow n) ms → Each (λ (j : ℕ). j < n) (keptLabels seen ms)
+unfolding keptLabels
 order-below n seen [] h = tt
 order-below n seen (M.Gone ∷ r) h = order-below n seen r (h .1)
 order-below n seen (M.Number t ∷ r) h = order-below n seen r (h .1)
@@ -127,7 +129,7 @@ module _ (s : List ℕ) (labels : List (List ℕ)) (sh : Sheet) (flags : List Bo
       rw (right i h) (split (keeps sh (label (getD labels i []))) (λ e. rw e) (λ e. rw e))
   mark-says (N.Number t) r h = split (keeps sh (number t)) (λ e. rw e) (λ e. rw e)
 
-  pub mark-below : (n : Name) → Below (length labels) n → MarkBelow (length labels) (markName flags sh n)
+  mark-below : (n : Name) → Below (length labels) n → MarkBelow (length labels) (markName flags sh n)
   unfolding markName
   mark-below (N.Label i) h = split (getD flags i false) (λ e. rw e h) (λ e. rw e tt)
   mark-below (N.Number t) h = split (keeps sh (number t)) (λ e. rw e tt) (λ e. rw e tt)
@@ -148,7 +150,7 @@ module _ (s : List ℕ) (labels : List (List ℕ)) (sh : Sheet) (flags : List Bo
       (λ e. rw e i)
 
   -- the marks say the names of what is kept
-  pub marks-say : (ps : List Part) → Each (PartBelow (length labels)) ps
+  pub marks-say : (ps : List Part) → Each (PartItems (ItemBelow (length labels))) ps
       → saying labels (marksOf flags sh (slots ps)) ≡ names (keptItems sh (map (meantPart s labels) ps))
   unfolding slots markItem keptItems names saying
   marks-say [] h = refl
@@ -160,21 +162,19 @@ module _ (s : List ℕ) (labels : List (List ℕ)) (sh : Sheet) (flags : List Bo
       (λ e. rw e i)
   marks-say (many hd xs ∷ ps) h =
       let ys = keptPayloads sh (map (meantPayload s labels) xs) in
-      inners-say xs (slots ps) (h .0)
+      inners-say xs (slots ps) (h .0 .1)
       ∙ ap (λ (l : List SaidName). map (λ (x : SaidPayload). x .name) ys ++ l) (marks-say ps (h .1))
       ∙ sym (sync-names (hd .offset) (hd .duration) ys (keptItems sh (map (meantPart s labels) ps)))
 
-  inners-below : (xs : List Payload) (rest : List Slot) → Each (λ (x : Payload). Below (length labels) (x .name)) xs
-      → Each (MarkBelow (length labels)) (marksOf flags sh rest) → Each (MarkBelow (length labels)) (marksOf flags sh (inners xs ++ rest))
+  item-below : (it : Item) → ItemBelow (length labels) it → MarkBelow (length labels) (markItem flags sh it)
   unfolding markItem
-  inners-below [] rest h g = g
-  inners-below (x ∷ xs) rest h g = (mark-below (x .name) (h .0), inners-below xs rest (h .1) g)
+  item-below (I.Single x) h = mark-below (x .name) h
+  item-below (I.Inner x) h = mark-below (x .name) h
+  item-below (I.Sync hd) h = tt
 
-  pub marks-below : (ps : List Part) → Each (PartBelow (length labels)) ps → Each (MarkBelow (length labels)) (marksOf flags sh (slots ps))
-  unfolding slots markItem
+  pub marks-below : (xs : List Slot) → Each (λ (x : Slot). ItemBelow (length labels) (x .item)) xs → Each (MarkBelow (length labels)) (marksOf flags sh xs)
   marks-below [] h = h
-  marks-below (one x ∷ ps) h = (mark-below (x .name) (h .0), marks-below ps (h .1))
-  marks-below (many hd xs ∷ ps) h = (tt, inners-below xs (slots ps) (h .0) (marks-below ps (h .1)))
+  marks-below (x ∷ xs) h = (item-below (x .item) (h .0), marks-below xs (h .1))
 
   -- TAGS OF MARKS
 
@@ -185,38 +185,18 @@ module _ (s : List ℕ) (labels : List (List ℕ)) (sh : Sheet) (flags : List Bo
         rw (right i h) (split (keeps sh (label (getD labels i []))) (λ e. rw e (given i h)) (λ e. rw e))
     mark-tag (N.Number t) h = split (keeps sh (number t)) (λ e. rw e) (λ e. rw e)
 
-    abbrev ItemBelow : Item → Type 0
-    ItemBelow (I.Single x) = Below (length labels) (x .name)
-    ItemBelow (I.Inner x) = Below (length labels) (x .name)
-    ItemBelow (I.Sync h) = Unit
-
-    item-tag : (it : Item) → ItemBelow it → tagOf index (markItem flags sh it) ≡ tagItem (newTag s labels sh ms) it
+    item-tag : (it : Item) → ItemBelow (length labels) it → tagOf index (markItem flags sh it) ≡ tagItem (newTag s labels sh ms) it
     unfolding markItem
     item-tag (I.Single x) h = mark-tag (x .name) h
     item-tag (I.Inner x) h = mark-tag (x .name) h
     item-tag (I.Sync hd) h = refl
 
-    rows-planned : (xs : List Slot) (rest : List Marked) → Each (λ (x : Slot). ItemBelow (x .item)) xs
-        → planned index xs (map marked (marksOf flags sh xs) ++ rest) ≡ planBy (newTag s labels sh ms) xs
-    unfolding planned planBy
-    rows-planned [] rest h = refl
-    rows-planned (x ∷ xs) rest h =
-        let p = planBy (newTag s labels sh ms) xs in
-        ap (λ (q : Planned). joined (stepOf (x .item) (tagOf index (markItem flags sh (x .item))) (q .inner)) q) (rows-planned xs rest (h .1))
-        ∙ ap (λ (t : ℕ). joined (stepOf (x .item) t (p .inner)) p) (item-tag (x .item) (h .0))
-
-    inners-rows : (xs : List Payload) (rest : List Slot) → Each (λ (x : Payload). Below (length labels) (x .name)) xs
-        → Each (λ (x : Slot). ItemBelow (x .item)) rest → Each (λ (x : Slot). ItemBelow (x .item)) (inners xs ++ rest)
-    inners-rows [] rest h g = g
-    inners-rows (x ∷ xs) rest h g = (h .0, inners-rows xs rest (h .1) g)
-
-    parts-rows : (ps : List Part) → Each (PartBelow (length labels)) ps → Each (λ (x : Slot). ItemBelow (x .item)) (slots ps)
-    unfolding slots
-    parts-rows [] h = h
-    parts-rows (one x ∷ ps) h = (h .0, parts-rows ps (h .1))
-    parts-rows (many hd xs ∷ ps) h = (tt, inners-rows xs (slots ps) (h .0) (parts-rows ps (h .1)))
-
     -- the plan goes by the new tags of names
-    pub parts-planned : (ps : List Part) (rest : List Marked) → Each (PartBelow (length labels)) ps
-        → planned index (slots ps) (map marked (marksOf flags sh (slots ps)) ++ rest) ≡ planBy (newTag s labels sh ms) (slots ps)
-    parts-planned ps rest h = rows-planned (slots ps) rest (parts-rows ps h)
+    pub slots-planned : (xs : List Slot) (rest : List Mark) → Each (λ (x : Slot). ItemBelow (length labels) (x .item)) xs
+        → planned index xs (marksOf flags sh xs ++ rest) ≡ planBy (newTag s labels sh ms) xs
+    unfolding planned planBy
+    slots-planned [] rest h = refl
+    slots-planned (x ∷ xs) rest h =
+        let p = planBy (newTag s labels sh ms) xs in
+        ap (λ (q : Planned). joined (slotPlan (x .item) (tagOf index (markItem flags sh (x .item))) (q .inner)) q) (slots-planned xs rest (h .1))
+        ∙ ap (λ (t : ℕ). joined (slotPlan (x .item) t (p .inner)) p) (item-tag (x .item) (h .0))

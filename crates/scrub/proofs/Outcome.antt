@@ -1,11 +1,11 @@
 -- How a scrub comes out: a refusal of the sheet, of the pack, NOROOM, or the written pack.
-use mathlib.Core.Path.{_≡_, refl, sym, ap, ap₂, _∙_}
-use mathlib.Core.List.{List, _++_}
+use mathlib.Core.Path.{_≡_, refl, sym, ap, _∙_}
+use mathlib.Core.List.{List}
 use mathlib.Core.Bool.{true, false}
 use mathlib.Core.Logic.{_⊎_}
-use Prim.Native.Nat.{ℕ, _+_, _-_, _<_, _≤_}
+use Prim.Native.Nat.{ℕ, _+_, _<_, _≤_}
 use native.Mathlib.Omega.{arith}
-use lib.ListN.{length, take, replicate, length-append, length-replicate}
+use lib.ListN.{length}
 use Rattle.runs.proofs.Cases.{absurd-eq}
 use Rattle.refusals.specs.declared.Refusal.{Refusal}
 use Rattle.refusals.specs.declared.Refusal.the-variants as R
@@ -17,11 +17,10 @@ use Rattle.pack.specs.declared.Reading.{Reading}
 use Rattle.pack.specs.Items.{countOf}
 use Rattle.pack.specs.Fixed.{packCap}
 use Rattle.pack.specs.Reading.{Read, reading}
-use Rattle.pack.specs.Slots.{slots, blank, shown}
-use Rattle.pack.proofs.Slots.{slots-count}
+use Rattle.pack.specs.Slots.{shown}
 use Rattle.pack.specs.Meaning.{meant}
 use Rattle.pack.specs.Said.{Said}
-use Rattle.scrub_kept.specs.Sheet.{Sheet, sheetOf}
+use Rattle.scrub_kept.specs.Sheet.{sheetOf}
 use Rattle.scrub_kept.specs.Kept.{kept}
 use Rattle.scrub_kept.specs.Written.{written}
 use Rattle.scrub_kept.specs.Scrubbed.{roomFor, scrubbed, leaves}
@@ -31,13 +30,14 @@ use Rattle.scrub_sheet.specs.declared.Asked.{Asked}
 use Rattle.scrub_sheet.specs.declared.Asked.the-variants as K
 use Rattle.scrub_sheet.specs.Asked.{sheetAsked, asks, outcome}
 use Rattle.scrub_sheet.proofs.Header.{judged-outcome, judged-holds}
-use Rattle.scrub_write.specs.Laid.{contentAt, framed, sealed, Packed, Packs}
+use Rattle.scrub_write.specs.declared.Laid.{Laid}
+use Rattle.scrub_write.specs.Laid.{framed, sealed, Packed, laidOut, Packs}
 use Rattle.pack_slots.specs.Slots.{slotsIn}
-use Rattle.pack_slots.proofs.Laws.{length-in}
 use Rattle.pack_read.specs.declared.Outline.{Outline}
 use Rattle.pack_read.specs.Shown.{Outlined}
-use Rattle.scrub.specs.Ready.{Accepts, Prepared, Ready}
-use Rattle.scrub.specs.Scrubs.{Scrubs, isRefused, Good}
+use Rattle.scrub.specs.declared.Found.{Found}
+use Rattle.scrub.specs.Ready.{isRefused, Good, Accepts, Ready}
+use Rattle.scrub.specs.Scrubs.{Scrubs}
 
 -- THE SHEET
 
@@ -70,28 +70,32 @@ unfolding shown answered
 shown-answer (fine r) = refl
 shown-answer (refused why place) = refl
 
-answer-refused : (o : Outcome Read) (why : Refusal) (place : ℕ) → answered (λ (r : Read). countOf (r .body .parts)) o ≡ A.Refused why place → o ≡ refused why place
+-- the outcome of an answer that is known
+refused-of : {X : Type 0} (f : X → ℕ) (o : Outcome X) {why : Refusal} {p : ℕ} → A.Refused why p ≡ answered f o → o ≡ refused why p
 unfolding answered
-answer-refused (fine r) why place e = absurd-eq (cc)
-answer-refused (refused w p) why place e = let a : w ≡ why = cc in let b : p ≡ place = cc in ap₂ refused a b
+refused-of f (fine x) e = absurd-eq (cc)
+refused-of f (refused why p) e = cc
 
-answer-done : (o : Outcome Read) (n : ℕ) → answered (λ (r : Read). countOf (r .body .parts)) o ≡ A.Done n → (r : Read) × (o ≡ fine r) × (n ≡ countOf (r .body .parts))
+done-of : {X : Type 0} (f : X → ℕ) (o : Outcome X) {n : ℕ} → A.Done n ≡ answered f o → (x : X) × (o ≡ fine x) × (n ≡ f x)
 unfolding answered
-answer-done (fine r) n e = (r, refl, cc)
-answer-done (refused w p) n e = absurd-eq (cc)
+done-of f (fine x) e = (x, refl, cc)
+done-of f (refused why p) e = absurd-eq (cc)
 
 -- what an outline tells of a pack
 module _ (sheet s before : List ℕ) (x : Asked) (good : Good sheet x) {shows : Outline} {held tags places : List ℕ} (o : Outlined s shows held tags places) where
+  told-answer : shows .answer ≡ answered (λ (r : Read). countOf (r .body .parts)) (reading s)
+  told-answer = ap (λ (y : Outline). y .answer) (o .told) ∙ shown-answer (reading s)
+
   pub pack-refused : (why : Refusal) (place : ℕ) → shows .answer ≡ A.Refused why place → Scrubs sheet s before (A.Refused why place) before
   unfolding scrubbed andThen answered leaves
   pack-refused why place h =
-      let z : reading s ≡ refused why place = answer-refused (reading s) why place (sym (shown-answer (reading s)) ∙ sym (ap (λ (y : Outline). y .answer) (o .told)) ∙ h) in
+      let z : reading s ≡ refused why place = refused-of (λ (r : Read). countOf (r .body .parts)) (reading s) (sym h ∙ told-answer) in
       record { answer = rw (good .is, z); buffer = rw (good .is, z) }
 
-  pub pack-accepted : (n : ℕ) → shows .answer ≡ A.Done n → Accepts s (shows .offset) (shows .mapped) places (slotsIn held) n
+  pub pack-accepted : (n : ℕ) → shows .answer ≡ A.Done n → Accepts s (record { offset = shows .offset; mapped = shows .mapped; count = n }) places (slotsIn held)
   unfolding shown
   pack-accepted n h =
-      let d = answer-done (reading s) n (sym (shown-answer (reading s)) ∙ sym (ap (λ (y : Outline). y .answer) (o .told)) ∙ h) in
+      let d = done-of (λ (r : Read). countOf (r .body .parts)) (reading s) (sym h ∙ told-answer) in
       let e = o .whole n h ∙ ap shown (d .1) in
       record {
         read = d .0;
@@ -103,65 +107,45 @@ module _ (sheet s before : List ℕ) (x : Asked) (good : Good sheet x) {shows : 
         counted = d .2;
       }
 
--- no more slots than there are hold something
-pub rows-few : {s : List ℕ} {offset mapped : ℕ} {places : List ℕ} (held : List ℕ) {n : ℕ} → Accepts s offset mapped places (slotsIn held) n → n ≤ 64
-rows-few {s} {offset} {mapped} {places} held {n} a =
-    let xs = slots (a .read .body .parts) in
-    let l = sym (length-in held) ∙ ap length (a .hold) ∙ length-append xs (replicate (64 - length xs) blank) in
-    let r = length-replicate (64 - length xs) blank in
-    let c = slots-count (a .read .body .parts) in
-    let e = a .counted in
-    omega arith
-
 -- WRITING
 
-module _ (sheet s before : List ℕ) (x : Asked) {offset mapped : ℕ} {places : List ℕ} {items : List Slot} {n : ℕ} (g : Good sheet x)
-    (a : Accepts s offset mapped places items n) (r : Prepared)
-    (made : (q : Read) → reading s ≡ fine q → Ready (kept (asks sheet x) (meant s q)) s offset places r) where
+module _ {sheet s : List ℕ} (before : List ℕ) {x : Asked} {found : Found} {places : List ℕ} {items : List Slot} (g : Good sheet x) (a : Accepts s found places items)
+    {order tags ops : List ℕ} {laid : Laid} (made : (q : Read) → reading s ≡ fine q → Ready (kept (asks sheet x) (meant s q)) s places order tags ops laid) where
   abbrev what : Said
   what = kept (asks sheet x) (meant s (a .read))
 
-  ready : Ready what s offset places r
+  abbrev whole : ℕ
+  whole = 16 + length (lengthBytes (laid .size)) + laid .size
+
+  ready : Ready what s places order tags ops laid
   ready = made (a .read) (a .is)
 
-  pub size-small : r .size < 4000000
-  size-small = ready .small
+  pub packs : Packs s places order tags ops laid
+  packs = ready .packs
 
   room-is : scrubbed sheet s (length before) ≡ roomFor (length before) (written what)
   room-is = scrub-is sheet s (asks sheet x) (a .read) (length before) (g .is) (a .is)
 
-  whole-is : 16 + length (lengthBytes (r .size)) + r .size ≡ length (written what)
-  whole-is = ap (λ (k : ℕ). 16 + length (lengthBytes k) + k) (ready .counted) ∙ sym (written-length what)
+  whole-is : whole ≡ length (written what)
+  whole-is =
+      ap (λ (k : ℕ). 16 + length (lengthBytes k) + k) (packs .counted ∙ ap (λ (l : List ℕ). length l + 6) (ready .content)) ∙ sym (written-length what)
 
-  pub no-room : (length before < 16 + length (lengthBytes (r .size)) + r .size) ⊎ (packCap < 16 + length (lengthBytes (r .size)) + r .size)
-      → Scrubs sheet s before (A.Refused R.NoRoom 0) before
+  pub no-room : (length before < whole) ⊎ (packCap < whole) → Scrubs sheet s before (A.Refused R.NoRoom 0) before
   unfolding answered leaves
   no-room h =
       let z : scrubbed sheet s (length before) ≡ refused R.NoRoom 0 = room-is ∙ room-short (length before) (written what) (rw (← whole-is) h) in
       record { answer = rw z; buffer = rw z }
 
-  pub packs : 16 + length (lengthBytes (r .size)) + r .size ≤ length before → Packs s offset places (take (r .labels) (r .order)) (r .tags) (r .ops) (r .size) (length before)
-  packs h = record {
-    entries = ready .entries;
-    writes = ready .writes;
-    counted = ready .counted ∙ ap (λ (l : List ℕ). length l + 6) (sym (ready .content));
-    small = let z = ready .small in omega arith;
-    fits = h;
-  }
-
-  pub labels-few : r .labels ≤ 64
-  labels-few = ready .few
-
-  pub wrote : (k : ℕ) (after : List ℕ) → 16 + length (lengthBytes (r .size)) + r .size ≤ length before → 16 + length (lengthBytes (r .size)) + r .size ≤ packCap
-      → Packed before (sealed (framed (contentAt s offset places (take (r .labels) (r .order)) (r .tags) (r .ops)))) k after
+  pub wrote : (k : ℕ) (after : List ℕ) → whole ≤ length before → whole ≤ packCap
+      → Packed before (sealed (framed (laidOut s places order tags ops laid))) k after
       → Scrubs sheet s before (A.Done k) after
-  unfolding answered leaves
+  unfolding answered
   wrote k after fits cap p =
-      let e : sealed (framed (contentAt s offset places (take (r .labels) (r .order)) (r .tags) (r .ops))) ≡ written what =
+      let e : sealed (framed (laidOut s places order tags ops laid)) ≡ written what =
       ap (λ (l : List ℕ). sealed (framed l)) (ready .content) ∙ sym (written-bytes what) in
       let w = whole-is in
       let z : scrubbed sheet s (length before) ≡ fine (written what) = room-is ∙ room-enough (length before) (written what) (omega arith) (omega arith) in
       record {
         answer = rw z (ap A.Done (p .size ∙ ap length e));
-        buffer = rw z (p .buffer ∙ ap (λ (l : List ℕ). l ++ replicate (length before - length l) 0) e);
+        buffer = rw z (p .buffer ∙ ap (λ (l : List ℕ). leaves before (fine l)) e);
       }

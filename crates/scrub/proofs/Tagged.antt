@@ -2,7 +2,7 @@
 use mathlib.Core.Path.{_≡_, sym, ap, subst, _∙_}
 use mathlib.Core.List.{List, [], _∷_, _++_, map}
 use mathlib.Core.Bool.{true, false}
-use Prim.Native.Nat.{ℕ, _+_, _<_, _≤_, _^_}
+use Prim.Native.Nat.{ℕ, _<_, _≤_, _^_}
 use native.Mathlib.Omega.{arith}
 use lib.ListN.{length, getD}
 use Rattle.runs.specs.Same.{among, listed}
@@ -10,24 +10,27 @@ use Rattle.runs.proofs.Cases.{split}
 use Rattle.pack.specs.declared.Name.{Name}
 use Rattle.pack.specs.declared.Name.the-variants as N
 use Rattle.pack.specs.declared.Payload.{Payload}
+use Rattle.pack.specs.declared.Item.{Item}
+use Rattle.pack.specs.declared.Item.the-variants as I
 use Rattle.pack.specs.Said.{SaidName, label, SaidPayload, names}
 use Rattle.pack.specs.Items.{Part, one, many}
 use Rattle.pack.specs.Meaning.{meantName, meantPayload, meantPart}
+use Rattle.pack.proofs.Slots.{PartItems}
 use Rattle.pack_layout.specs.Layout.{Entry}
 use Rattle.pack_layout.proofs.Bounds as B
 use Rattle.runs.specs.Those.{those, Each}
 use Rattle.scrub_kept.specs.Sheet.{Sheet}
 use Rattle.scrub_kept.specs.Kept.{keeps, keptPayloads, keptItems}
 use Rattle.scrub_kept.specs.Written.{numbersIn, labelsIn, entries, tagFor}
-use Rattle.runs.proofs.Those.{each-map, each-left, each-right}
+use Rattle.runs.proofs.Those.{each-map, each-both, each-left, each-right}
 use Rattle.scrub_kept.proofs.Listed.{never}
 use Rattle.scrub_kept.proofs.Labels.{Named, names-named}
 use Rattle.scrub_kept.proofs.Entries.{assigned-labels, label-tag}
 use Rattle.scrub_kept.proofs.Mappings.{entries-new}
-use Rattle.scrub.proofs.Flat.{Lies, PartLies}
+use Rattle.scrub.proofs.Flat.{Lies, ItemLies}
 use Rattle.scrub.proofs.Names.{sync-names}
 
--- a tag that can be written, and that is none of a row that goes
+-- a tag that can be written, and that is none of a slot that goes
 abbrev pub Writable : ℕ → Type 0
 Writable t = (0 < t) × (t < 128 ^ 4)
 
@@ -45,9 +48,10 @@ module _ (s : List ℕ) (labels : List (List ℕ)) (sh : Sheet) where
     abbrev KeptOne : Payload → Type 0
     KeptOne x = keeps sh (meantName labels (x .name)) ≡ true → P (meantName labels (x .name))
 
-    abbrev KeptPart : Part → Type 0
-    KeptPart (one x) = KeptOne x
-    KeptPart (many h xs) = Each KeptOne xs
+    abbrev KeptItem : Item → Type 0
+    KeptItem (I.Single x) = KeptOne x
+    KeptItem (I.Inner x) = KeptOne x
+    KeptItem (I.Sync h) = Unit
 
     kept-inside : (xs : List Payload) → Each P (map (λ (x : SaidPayload). x .name) (keptPayloads sh (map (meantPayload s labels) xs))) → Each KeptOne xs
     unfolding those
@@ -58,7 +62,7 @@ module _ (s : List ℕ) (labels : List (List ℕ)) (sh : Sheet) where
         (λ e. let g : P (meantName labels (x .name)) × Each P rest = simp e at h in ((λ q. g .0), kept-inside xs (g .1)))
         (λ e. let g : Each P rest = simp e at h in ((λ q. never (sym q ∙ e)), kept-inside xs g))
 
-    kept-parts : (ps : List Part) → Each P (names (keptItems sh (map (meantPart s labels) ps))) → Each KeptPart ps
+    kept-parts : (ps : List Part) → Each P (names (keptItems sh (map (meantPart s labels) ps))) → Each (PartItems KeptItem) ps
     unfolding keptItems names
     kept-parts [] h = tt
     kept-parts (one x ∷ ps) h =
@@ -71,7 +75,7 @@ module _ (s : List ℕ) (labels : List (List ℕ)) (sh : Sheet) where
         let ns = map (λ (x : SaidPayload). x .name) ys in
         let rest = keptItems sh (map (meantPart s labels) ps) in
         let g : Each P (ns ++ names rest) = subst (Each P) (sync-names (hd .offset) (hd .duration) ys rest) h in
-        (kept-inside xs (each-left P ns (names rest) g), kept-parts ps (each-right P ns (names rest) g))
+        ((tt, kept-inside xs (each-left P ns (names rest) g)), kept-parts ps (each-right P ns (names rest) g))
 
   module _ (n : ℕ) (ns : List SaidName) (few : length ns ≤ 64) where
     name-writable : (x : Name) → B.NameFits n x → Named (numbersIn ns) (labelsIn [] ns) (meantName labels x) → Writable (tagFor (entries ns) (meantName labels x))
@@ -85,14 +89,9 @@ module _ (s : List ℕ) (labels : List (List ℕ)) (sh : Sheet) where
     payload-lies : (x : Payload) → B.PayloadLies s n x → KeptOne Rule x → Lies s labels sh (entries ns) x
     payload-lies x p q = record { ends = p .ends; tagged = λ e. name-writable (x .name) (p .named) (q e) }
 
-    inside-lie : (xs : List Payload) → Each (B.PayloadLies s n) xs → Each (KeptOne Rule) xs → Each (Lies s labels sh (entries ns)) xs
-    inside-lie [] p q = tt
-    inside-lie (x ∷ xs) p q = (payload-lies x (p .0) (q .0), inside-lie xs (p .1) (q .1))
+    part-lies : (p : Part) → B.PartLies s n p → PartItems (KeptItem Rule) p → PartItems (ItemLies s labels sh (entries ns)) p
+    part-lies (one x) p q = payload-lies x p q
+    part-lies (many hd xs) p q = (tt, each-both payload-lies xs (p .1) (q .1))
 
-    all-lie : (ps : List Part) → Each (B.PartLies s n) ps → Each (KeptPart Rule) ps → Each (PartLies s labels sh (entries ns)) ps
-    all-lie [] p q = tt
-    all-lie (one x ∷ ps) p q = (payload-lies x (p .0) (q .0), all-lie ps (p .1) (q .1))
-    all-lie (many hd xs ∷ ps) p q = (inside-lie xs (p .0 .1) (q .0), all-lie ps (p .1) (q .1))
-
-    pub parts-lie : (ps : List Part) → Each (B.PartLies s n) ps → ns ≡ names (keptItems sh (map (meantPart s labels) ps)) → Each (PartLies s labels sh (entries ns)) ps
-    parts-lie ps p e = all-lie ps p (kept-parts Rule ps (subst (Each Rule) e (names-named ns)))
+    pub parts-lie : (ps : List Part) → Each (B.PartLies s n) ps → ns ≡ names (keptItems sh (map (meantPart s labels) ps)) → Each (PartItems (ItemLies s labels sh (entries ns))) ps
+    parts-lie ps p e = each-both part-lies ps p (kept-parts Rule ps (subst (Each Rule) e (names-named ns)))

@@ -1,68 +1,28 @@
 // The scrub: the pack that a sheet keeps of a pack, written anew into a lent buffer.
 ghost use mathlib.Core.Path.{_≡_};
-ghost use lib.ListN.{take, replicate};
+ghost use lib.ListN.{replicate};
 ghost use Rattle.refusals.specs.Outcomes.{fine};
 ghost use Rattle.pack.specs.Reading.{Read, reading};
 ghost use Rattle.pack.specs.Meaning.{meant};
 ghost use Rattle.pack_slots.specs.Slots.{slotsIn};
 ghost use Rattle.scrub_kept.specs.Kept.{kept};
 ghost use Rattle.scrub_sheet.specs.Asked.{asks, EntriesThere};
-ghost use Rattle.scrub_write.specs.Ops.{opsIn};
-ghost use Rattle.scrub.specs.Ready.{Accepts, Ready};
-ghost use Rattle.scrub.specs.Scrubs.{Scrubs, isRefused, Good};
+ghost use Rattle.scrub.specs.Ready.{isRefused, Good, Accepts, Ready};
+ghost use Rattle.scrub.specs.Scrubs.{Scrubs};
 use refusals::Answer;
 use refusals::Refusal;
 use scrub_sheet::Asked;
-
-// How many labels are mapped, and the size of the pack's value.
-pub struct Sizes {
-    pub labels: usize,
-    pub size: usize,
-}
-
-// Keeps, names and plans: one forward pass over the slots and one backward. The labels that are mapped, by first appearance, their new tags and
-// the writes go into the last three arrays, which come empty.
-fn prepare(
-    sheet: &[u8],
-    asked: Asked,
-    p: &[u8],
-    slots: &[u32; 512],
-    places: &[u32; 32],
-    mapped: usize,
-    offset: u16,
-    count: usize,
-    order: &mut [u32; 64],
-    tags: &mut [u32; 64],
-    ops: &mut [u32; 256],
-) -> Sizes
-    requires { ⌜ Accepts (now p) offset mapped (now places) (slotsIn (now slots)) count × EntriesThere (now sheet) asked
-        × (now order ≡ replicate 64 0) × (now tags ≡ replicate 64 0) × (now ops ≡ replicate 256 0) ⌝ }
-    ensures { λ r. ⌜ ((q : Read) → reading (now (p .entry)) ≡ fine q
-        → Ready (kept (asks (now (sheet .entry)) asked) (meant (now (p .entry)) q)) (now (p .entry)) offset (now (places .entry))
-        (record { ops = take count (opsIn (now (ops .exit))); order = now (order .exit); tags = now (tags .exit); labels = r .labels; size = r .size })) ⌝ }
-{
-    let flags = scrub_names::flags(sheet, asked, p, places, mapped);
-    let mut marks = [0u32; 128];
-    let mut taken = [false; 64];
-    let labels = scrub_names::note(
-        sheet,
-        asked,
-        &flags,
-        slots,
-        count,
-        &mut marks,
-        &mut *order,
-        &mut taken,
-    );
-    scrub_names::assign(&taken, labels, &mut *tags);
-    let index = scrub_names::by_index(order, tags, labels);
-    let bytes = scrub_plan::plan_rows(slots, &marks, &index, count, &mut *ops);
-    let size = scrub_write::config_size(offset, labels) + bytes as usize + 6;
-    Sizes { labels, size }
-}
+use scrub_write::Laid;
 
 // The longest pack.
 const PACK_CAP: usize = 32768;
+
+// What a reading finds: the pack offset, how many labels are mapped, and how many slots hold something.
+pub struct Found {
+    pub offset: u16,
+    pub mapped: usize,
+    pub count: usize,
+}
 
 fn refused(asked: Asked) -> bool
     ensures { λ r. ⌜ r ≡ isRefused asked ⌝ }
@@ -77,6 +37,49 @@ fn refused(asked: Asked) -> bool
     }
 }
 
+// Keeps, names and plans: one forward pass over the slots and one backward. The labels that are mapped, by first appearance, their new tags and
+// the writes go into the last three arrays, which come empty.
+fn prepare(
+    sheet: &[u8],
+    asked: Asked,
+    p: &[u8],
+    slots: &[u32; 512],
+    places: &[u32; 32],
+    found: Found,
+    order: &mut [u32; 64],
+    tags: &mut [u32; 64],
+    ops: &mut [u32; 256],
+) -> Laid
+    requires { ⌜ Accepts (now p) found (now places) (slotsIn (now slots)) × EntriesThere (now sheet) asked
+        × (now order ≡ replicate 64 0) × (now tags ≡ replicate 64 0) × (now ops ≡ replicate 256 0) ⌝ }
+    ensures { λ r. ⌜ ((q : Read) → reading (now (p .entry)) ≡ fine q
+        → Ready (kept (asks (now (sheet .entry)) asked) (meant (now (p .entry)) q)) (now (p .entry)) (now (places .entry)) (now (order .exit)) (now (tags .exit)) (now (ops .exit)) r) ⌝ }
+{
+    let flags = scrub_names::flags(sheet, asked, p, places, found.mapped);
+    let mut marks = [0u32; 128];
+    let mut taken = [false; 64];
+    let labels = scrub_names::note(
+        sheet,
+        asked,
+        &flags,
+        slots,
+        found.count,
+        &mut marks,
+        &mut *order,
+        &mut taken,
+    );
+    scrub_names::assign(&taken, labels, &mut *tags);
+    let index = scrub_names::by_index(order, tags, labels);
+    let bytes = scrub_plan::plan_slots(slots, &marks, &index, found.count, &mut *ops);
+    let size = scrub_write::config_size(found.offset, labels) + bytes as usize + 6;
+    Laid {
+        offset: found.offset,
+        labels,
+        writes: found.count,
+        size,
+    }
+}
+
 // Writes what a good sheet keeps of an accepted pack, or gives NOROOM before it writes.
 fn write_kept(
     sheet: &[u8],
@@ -84,31 +87,27 @@ fn write_kept(
     p: &[u8],
     slots: &[u32; 512],
     places: &[u32; 32],
-    mapped: usize,
-    offset: u16,
-    count: usize,
+    found: Found,
     out: &mut [u8],
 ) -> Answer
-    requires { ⌜ Good (now sheet) asked × Accepts (now p) offset mapped (now places) (slotsIn (now slots)) count ⌝ }
+    requires { ⌜ Good (now sheet) asked × Accepts (now p) found (now places) (slotsIn (now slots)) ⌝ }
     ensures { λ r. ⌜ Scrubs (now (sheet .entry)) (now (p .entry)) (now (out .entry)) r (now (out .exit)) ⌝ }
 {
     let mut order = [0u32; 64];
     let mut tags = [0u32; 64];
     let mut ops = [0u32; 256];
-    let ready = prepare(
+    let laid = prepare(
         sheet,
         asked,
         p,
         slots,
         places,
-        mapped,
-        offset,
-        count,
+        found,
         &mut order,
         &mut tags,
         &mut ops,
     );
-    let size = ready.size;
+    let size = laid.size;
     let whole = 16 + numbers::length_size(size as u32) + size;
     if whole > out.len() {
         return Answer::Refused {
@@ -122,19 +121,7 @@ fn write_kept(
             place: 0,
         };
     }
-    let stand = *places;
-    let written = scrub_write::write_pack(
-        p,
-        offset,
-        stand,
-        order,
-        tags,
-        ready.labels,
-        &ops,
-        count,
-        size,
-        out,
-    );
+    let written = scrub_write::write_pack(p, laid, places, &order, &tags, &ops, out);
     Answer::Done(written)
 }
 
@@ -157,16 +144,13 @@ pub fn scrub(sheet: &[u8], pack: &[u8], out: &mut [u8]) -> Answer
     let answer = shows.answer;
     match answer {
         Answer::Refused { why, place } => Answer::Refused { why, place },
-        Answer::Done(count) => write_kept(
-            sheet,
-            asked,
-            pack,
-            &slots,
-            &places,
-            shows.mapped as usize,
-            shows.offset,
-            count,
-            out,
-        ),
+        Answer::Done(count) => {
+            let found = Found {
+                offset: shows.offset,
+                mapped: shows.mapped as usize,
+                count,
+            };
+            write_kept(sheet, asked, pack, &slots, &places, found, out)
+        }
     }
 }

@@ -2,7 +2,7 @@
 use mathlib.Core.Path.{_≡_, refl, sym, ap, ap₂, _∙_}
 use mathlib.Core.List.{List, [], _∷_, _++_, append-assoc, append-nil}
 use mathlib.Core.Bool.{Bool, true, false}
-use Prim.Native.Nat.{ℕ, zero, suc, _+_, _-_, _*_, _<_, _≤_}
+use Prim.Native.Nat.{ℕ, suc, _+_, _-_, _*_, _<_, _≤_}
 use native.Mathlib.Omega.{arith}
 use native.Mathlib.Numerals.{add-one}
 use lib.ListN.{length, drop, getD, set, replicate, length-append, drop-of-length-le}
@@ -12,8 +12,6 @@ use Rattle.pack.specs.declared.Name.{Name}
 use Rattle.pack.specs.declared.Name.the-variants as N
 use Rattle.pack.specs.declared.Item.{Item}
 use Rattle.pack.specs.declared.Item.the-variants as I
-use Rattle.pack.specs.declared.Payload.{Payload}
-use Rattle.pack.specs.declared.Head.{Head}
 use Rattle.pack.specs.Fixed.{itemCap}
 use Rattle.pack.specs.Said.{number}
 use Rattle.pack.specs.Slots.{padded}
@@ -21,40 +19,9 @@ use Rattle.pack.specs.Fits.{NameFits, ItemFits}
 use Rattle.pack.proofs.Padded.{set-padded}
 use Rattle.scrub_kept.specs.Sheet.{Sheet}
 use Rattle.scrub_kept.specs.Kept.{keeps}
-use Rattle.scrub_names.specs.declared.Mark.{Mark}
 use Rattle.scrub_names.specs.declared.Mark.the-variants as M
-use Rattle.scrub_names.specs.Marks.{markName, markItem, PlacesFit}
-use Rattle.scrub_names.specs.Given.{clearFrom, clearAt, given, byIndex, EachBelow}
-
-module _ (flags : List Bool) (sheet : Sheet) {x : Name} where
-  pub label-stays : (i : ℕ) → x ≡ N.Label i → getD flags i false ≡ true → M.Label i ≡ markName flags sheet x
-  unfolding markName
-  label-stays i e h = rw (e, h)
-
-  pub label-goes : (i : ℕ) → x ≡ N.Label i → getD flags i false ≡ false → M.Gone ≡ markName flags sheet x
-  unfolding markName
-  label-goes i e h = rw (e, h)
-
-  pub number-stays : (t : ℕ) → x ≡ N.Number t → keeps sheet (number t) ≡ true → M.Number t ≡ markName flags sheet x
-  unfolding markName
-  number-stays t e h = rw (e, h)
-
-  pub number-goes : (t : ℕ) → x ≡ N.Number t → keeps sheet (number t) ≡ false → M.Gone ≡ markName flags sheet x
-  unfolding markName
-  number-goes t e h = rw (e, h)
-
-module _ (flags : List Bool) (sheet : Sheet) {x : Item} where
-  pub single-mark : (y : Payload) {r : Mark} → x ≡ I.Single y → r ≡ markName flags sheet (y .name) → r ≡ markItem flags sheet x
-  unfolding markItem
-  single-mark y e h = rw e h
-
-  pub inner-mark : (y : Payload) {r : Mark} → x ≡ I.Inner y → r ≡ markName flags sheet (y .name) → r ≡ markItem flags sheet x
-  unfolding markItem
-  inner-mark y e h = rw e h
-
-  pub sync-mark : (y : Head) → x ≡ I.Sync y → M.Gone ≡ markItem flags sheet x
-  unfolding markItem
-  sync-mark y e = rw e
+use Rattle.scrub_names.specs.Marks.{markName, markItem}
+use Rattle.scrub_names.specs.Given.{clearFrom, clearAt, given, byIndex}
 
 name-label : (flags : List Bool) (sheet : Sheet) (x : Name) (i : ℕ) → NameFits x → markName flags sheet x ≡ M.Label i → i < 32
 unfolding markName
@@ -159,14 +126,3 @@ placing-step {order} {tags} {index} {k} i g h l e =
 
 pub placing-ends : {order tags index : List ℕ} {k : ℕ} → Placing order tags index k → k ≤ 0 → index ≡ byIndex order tags
 placing-ends {order} {tags} {index} {k} g h = let z : k ≡ 0 = omega arith in g .full ∙ ap (λ (n : ℕ). byIndex (drop n order) (drop n tags)) z
-
--- an element of those that are below
-pub below-at : (n : ℕ) (xs : List ℕ) (i : ℕ) → EachBelow n xs → i < length xs → getD xs i 0 < n
-below-at n [] i f h = absurd (omega arith)
-below-at n (x ∷ xs) zero f h = f .0
-below-at n (x ∷ xs) (suc i) f h = below-at n xs i (f .1) (omega arith)
-
-pub place-fits : (s : List ℕ) (xs : List ℕ) (i : ℕ) → PlacesFit s xs → i < length xs → getD xs i 0 + 16 ≤ length s
-place-fits s [] i f h = absurd (omega arith)
-place-fits s (x ∷ xs) zero f h = f .0
-place-fits s (x ∷ xs) (suc i) f h = place-fits s xs i (f .1) (omega arith)

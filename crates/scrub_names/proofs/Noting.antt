@@ -1,6 +1,6 @@
--- What the loop that marks rows keeps, and what each mark adds to it.
+-- What the loop that marks slots keeps, and what each mark adds to it.
 use mathlib.Core.Path.{_≡_, refl, sym, ap, subst, _∙_}
-use mathlib.Core.List.{List, [], _∷_, _++_, map, map-append}
+use mathlib.Core.List.{List, [], _∷_, _++_, map}
 use mathlib.Core.Bool.{Bool, true, false, _||_}
 use mathlib.Core.Logic.{_⊎_, inl, inr}
 use Prim.Native.Nat.{ℕ, _+_, _-_, _<_, _≤_}
@@ -16,10 +16,10 @@ use Rattle.pack.specs.Slots.{padded}
 use Rattle.pack.specs.declared.Slot.{Slot}
 use Rattle.scrub_names.specs.declared.Mark.{Mark}
 use Rattle.scrub_names.specs.declared.Mark.the-variants as M
-use Rattle.scrub_names.specs.Marks.{numbersOf, labelsOf, Marked, marked, Noted}
+use Rattle.scrub_names.specs.Marks.{keptNumbers, keptLabels, Noted}
 use Rattle.pack.proofs.Padded.{set-padded}
 use Rattle.scrub_names.proofs.Padded.{map-next}
-use Rattle.scrub_names.proofs.Growing.{among-last, numbers-number, numbers-gone, numbers-label, labels-gone, labels-number, labels-seen, labels-new, marks-few}
+use Rattle.scrub_names.proofs.Growing.{among-last, numbers-append, numbers-same, labels-same, labels-seen, labels-new, marks-few}
 
 outside : (t k : ℕ) → (t < 64) ⊎ (128 ≤ t) → k < 64 → t ≡ 64 + k → ⊥
 outside t k (inl h) g e = omega arith
@@ -34,32 +34,28 @@ or-true true b e = refl
 or-true false b e = e
 
 -- the arrays after the marks ms
-pub record Notes (ms : List Mark) (marks : List Marked) (order : List ℕ) (labels : ℕ) (taken seen : List Bool) : Type 0 where
+pub record Notes (ms : List Mark) (marks : List Mark) (order : List ℕ) (labels : ℕ) (taken seen : List Bool) : Type 0 where
   pub noted : Noted ms (record { marks = marks; order = order; labels = labels; taken = taken })
-  pub known : (n : ℕ) → n < 32 → getD seen n false ≡ among n (labelsOf [] ms)
+  pub known : (n : ℕ) → n < 32 → getD seen n false ≡ among n (keptLabels [] ms)
   pub sizes : (length taken ≡ 64) × (length seen ≡ 32)
 
-pub notes-begin : Notes [] (replicate 64 (marked M.Gone)) (replicate 64 0) 0 (replicate 64 false) (replicate 32 false)
-unfolding numbersOf labelsOf among
+pub notes-begin : Notes [] (replicate 64 M.Gone) (replicate 64 0) 0 (replicate 64 false) (replicate 32 false)
+unfolding keptNumbers keptLabels among
 notes-begin = record {
   noted = record { marks = refl; order = refl; labels = refl; taken = λ n h. getD-replicate 64 n false false h };
   known = λ n h. getD-replicate 32 n false false h;
   sizes = (refl, refl);
 }
 
-module _ {ms : List Mark} {marks : List Marked} {order : List ℕ} {labels : ℕ} {taken seen : List Bool} (n : Notes ms marks order labels taken seen)
+module _ {ms : List Mark} {marks : List Mark} {order : List ℕ} {labels : ℕ} {taken seen : List Bool} (n : Notes ms marks order labels taken seen)
     (at : ℕ) (here : at ≡ length ms) (room : at < 64) (r : Mark) where
-  marks-more : set marks at (marked r) ≡ padded itemCap (marked M.Gone) (map marked (ms ++ (r ∷ [])))
-  marks-more =
-      let l : length (map marked ms) ≡ length ms = length-map ms marked in
-      ap (λ (x : List Marked). set x at (marked r)) (n .noted .marks)
-      ∙ set-padded itemCap (marked M.Gone) (map marked ms) at (omega arith) (marked r) (omega arith)
-      ∙ ap (padded itemCap (marked M.Gone)) (sym (map-append marked ms (r ∷ [])))
+  marks-more : set marks at r ≡ padded itemCap M.Gone (ms ++ (r ∷ []))
+  marks-more = ap (λ (x : List Mark). set x at r) (n .noted .marks) ∙ set-padded itemCap M.Gone ms at (sym here) r room
 
   -- a mark that adds no label
-  same-labels : (tk : List Bool) → labelsOf [] (ms ++ (r ∷ [])) ≡ labelsOf [] ms → length tk ≡ 64
-      → ((k : ℕ) → k < 64 → getD tk k false ≡ among (64 + k) (numbersOf (ms ++ (r ∷ []))))
-      → Notes (ms ++ (r ∷ [])) (set marks at (marked r)) order labels tk seen
+  same-labels : (tk : List Bool) → keptLabels [] (ms ++ (r ∷ [])) ≡ keptLabels [] ms → length tk ≡ 64
+      → ((k : ℕ) → k < 64 → getD tk k false ≡ among (64 + k) (keptNumbers (ms ++ (r ∷ []))))
+      → Notes (ms ++ (r ∷ [])) (set marks at r) order labels tk seen
   same-labels tk e l t = record {
     noted = record {
       marks = marks-more;
@@ -71,27 +67,32 @@ module _ {ms : List Mark} {marks : List Marked} {order : List ℕ} {labels : ℕ
     sizes = (l, n .sizes .1);
   }
 
-  pub note-gone : r ≡ M.Gone → Notes (ms ++ (r ∷ [])) (set marks at (marked r)) order labels taken seen
-  note-gone e =
-      let a : labelsOf [] (ms ++ (r ∷ [])) ≡ labelsOf [] ms = ap (λ (x : Mark). labelsOf [] (ms ++ (x ∷ []))) e ∙ labels-gone [] ms in
-      let b : numbersOf (ms ++ (r ∷ [])) ≡ numbersOf ms = ap (λ (x : Mark). numbersOf (ms ++ (x ∷ []))) e ∙ numbers-gone ms in
-      same-labels taken a (n .sizes .0) (λ k h. n .noted .taken k h ∙ ap (among (64 + k)) (sym b))
+  -- a mark that adds no number either
+  same-both : keptLabels [] (ms ++ (r ∷ [])) ≡ keptLabels [] ms → keptNumbers (r ∷ []) ≡ [] → Notes (ms ++ (r ∷ [])) (set marks at r) order labels taken seen
+  same-both e f = same-labels taken e (n .sizes .0) (λ k h. n .noted .taken k h ∙ ap (among (64 + k)) (sym (numbers-same ms r f)))
 
-  number-adds : (t : ℕ) → r ≡ M.Number t → (k : ℕ) → among k (numbersOf (ms ++ (r ∷ []))) ≡ among k (numbersOf ms) || eqb t k
-  number-adds t e k = ap (λ (x : Mark). among k (numbersOf (ms ++ (x ∷ [])))) e ∙ ap (among k) (numbers-number ms t) ∙ among-last k t (numbersOf ms)
+  pub note-gone : r ≡ M.Gone → Notes (ms ++ (r ∷ [])) (set marks at r) order labels taken seen
+  unfolding keptLabels keptNumbers
+  note-gone e = same-both (labels-same [] ms r (λ s. rw e)) (rw e)
 
-  number-labels : (t : ℕ) → r ≡ M.Number t → labelsOf [] (ms ++ (r ∷ [])) ≡ labelsOf [] ms
-  number-labels t e = ap (λ (x : Mark). labelsOf [] (ms ++ (x ∷ []))) e ∙ labels-number [] ms t
+  number-adds : (t : ℕ) → r ≡ M.Number t → (k : ℕ) → among k (keptNumbers (ms ++ (r ∷ []))) ≡ among k (keptNumbers ms) || eqb t k
+  unfolding keptNumbers
+  number-adds t e k =
+      ap (among k) (numbers-append ms (r ∷ []) ∙ ap (λ (x : Mark). keptNumbers ms ++ keptNumbers (x ∷ [])) e) ∙ among-last k t (keptNumbers ms)
+
+  number-labels : (t : ℕ) → r ≡ M.Number t → keptLabels [] (ms ++ (r ∷ [])) ≡ keptLabels [] ms
+  unfolding keptLabels
+  number-labels t e = labels-same [] ms r (λ s. rw e)
 
   -- a number that no label can get
-  pub note-outside : (t : ℕ) → r ≡ M.Number t → (t < 64) ⊎ (128 ≤ t) → Notes (ms ++ (r ∷ [])) (set marks at (marked r)) order labels taken seen
+  pub note-outside : (t : ℕ) → r ≡ M.Number t → (t < 64) ⊎ (128 ≤ t) → Notes (ms ++ (r ∷ [])) (set marks at r) order labels taken seen
   note-outside t e o =
       let apart : (k : ℕ) → k < 64 → eqb t (64 + k) ≡ false = λ k h. ne-eqb t (64 + k) (outside t k o h) in
       same-labels taken (number-labels t e) (n .sizes .0)
-      (λ k h. n .noted .taken k h ∙ or-false (among (64 + k) (numbersOf ms)) (eqb t (64 + k)) (apart k h) ∙ sym (number-adds t e (64 + k)))
+      (λ k h. n .noted .taken k h ∙ or-false (among (64 + k) (keptNumbers ms)) (eqb t (64 + k)) (apart k h) ∙ sym (number-adds t e (64 + k)))
 
   -- a number from 64 to 127
-  pub note-inside : (t : ℕ) → r ≡ M.Number t → 64 ≤ t → t < 128 → Notes (ms ++ (r ∷ [])) (set marks at (marked r)) order labels (set taken (t - 64) true) seen
+  pub note-inside : (t : ℕ) → r ≡ M.Number t → 64 ≤ t → t < 128 → Notes (ms ++ (r ∷ [])) (set marks at r) order labels (set taken (t - 64) true) seen
   note-inside t e low high =
       let z = n .sizes .0 in
       same-labels (set taken (t - 64) true) (number-labels t e) (length-set taken (t - 64) true ∙ n .sizes .0)
@@ -99,29 +100,28 @@ module _ {ms : List Mark} {marks : List Marked} {order : List ℕ} {labels : ℕ
       (λ q. let p : t ≡ 64 + k = eqb-true t (64 + k) q in
       let j : k ≡ t - 64 = omega arith in
       ap (λ (m : ℕ). getD (set taken (t - 64) true) m false) j ∙ getD-set-same taken (t - 64) true false (omega arith)
-      ∙ sym (number-adds t e (64 + k) ∙ or-true (among (64 + k) (numbersOf ms)) (eqb t (64 + k)) q))
+      ∙ sym (number-adds t e (64 + k) ∙ or-true (among (64 + k) (keptNumbers ms)) (eqb t (64 + k)) q))
       (λ q. let p = eqb-false t (64 + k) q in
       getD-set-other taken (t - 64) k true false (λ j. p (omega arith)) ∙ n .noted .taken k h
-      ∙ or-false (among (64 + k) (numbersOf ms)) (eqb t (64 + k)) q ∙ sym (number-adds t e (64 + k))))
+      ∙ or-false (among (64 + k) (keptNumbers ms)) (eqb t (64 + k)) q ∙ sym (number-adds t e (64 + k))))
 
   -- a label that was seen
-  pub note-seen : (k : ℕ) → r ≡ M.Label k → k < 32 → getD seen k false ≡ true → Notes (ms ++ (r ∷ [])) (set marks at (marked r)) order labels taken seen
-  note-seen k e low h =
-      let a : labelsOf [] (ms ++ (r ∷ [])) ≡ labelsOf [] ms = ap (λ (x : Mark). labelsOf [] (ms ++ (x ∷ []))) e ∙ labels-seen ms k (sym (n .known k low) ∙ h) in
-      let b : numbersOf (ms ++ (r ∷ [])) ≡ numbersOf ms = ap (λ (x : Mark). numbersOf (ms ++ (x ∷ []))) e ∙ numbers-label ms k in
-      same-labels taken a (n .sizes .0) (λ j g. n .noted .taken j g ∙ ap (among (64 + j)) (sym b))
+  pub note-seen : (k : ℕ) → r ≡ M.Label k → k < 32 → getD seen k false ≡ true → Notes (ms ++ (r ∷ [])) (set marks at r) order labels taken seen
+  unfolding keptNumbers
+  note-seen k e low h = same-both (ap (λ (x : Mark). keptLabels [] (ms ++ (x ∷ []))) e ∙ labels-seen ms k (sym (n .known k low) ∙ h)) (rw e)
 
   -- a label that is new
   pub note-new : (k : ℕ) → r ≡ M.Label k → k < 32 → getD seen k false ≡ false
-      → Notes (ms ++ (r ∷ [])) (set marks at (marked r)) (set order labels k) (labels + 1) taken (set seen k true)
+      → Notes (ms ++ (r ∷ [])) (set marks at r) (set order labels k) (labels + 1) taken (set seen k true)
+  unfolding keptNumbers
   note-new k e low h =
-      let old = labelsOf [] ms in
+      let old = keptLabels [] ms in
       let few = marks-few [] ms in
       let z = n .sizes .1 in
       let nl = n .noted .labels in
-      let a : labelsOf [] (ms ++ (r ∷ [])) ≡ old ++ (k ∷ []) =
-      ap (λ (x : Mark). labelsOf [] (ms ++ (x ∷ []))) e ∙ labels-new ms k (sym (n .known k low) ∙ h) in
-      let b : numbersOf (ms ++ (r ∷ [])) ≡ numbersOf ms = ap (λ (x : Mark). numbersOf (ms ++ (x ∷ []))) e ∙ numbers-label ms k in
+      let a : keptLabels [] (ms ++ (r ∷ [])) ≡ old ++ (k ∷ []) =
+      ap (λ (x : Mark). keptLabels [] (ms ++ (x ∷ []))) e ∙ labels-new ms k (sym (n .known k low) ∙ h) in
+      let b : keptNumbers (ms ++ (r ∷ [])) ≡ keptNumbers ms = numbers-same ms r (rw e) in
       record {
         noted = record {
           marks = marks-more;
@@ -139,29 +139,29 @@ module _ {ms : List Mark} {marks : List Marked} {order : List ℕ} {labels : ℕ
         sizes = (n .sizes .0, length-set seen k true ∙ n .sizes .1);
       }
 
--- the loop after i of the rows xs
-pub record Noting (f : Slot → Mark) (xs : List Slot) (marks : List Marked) (order : List ℕ) (labels : ℕ) (taken seen : List Bool) (i : ℕ) : Type 0 where
+-- the loop after i of the slots xs
+pub record Noting (f : Slot → Mark) (xs : List Slot) (marks : List Mark) (order : List ℕ) (labels : ℕ) (taken seen : List Bool) (i : ℕ) : Type 0 where
   pub most : i ≤ length xs
   pub notes : Notes (map f (take i xs)) marks order labels taken seen
 
-pub noting-begins : (f : Slot → Mark) (xs : List Slot) {marks : List Marked} {order : List ℕ} {taken : List Bool} → marks ≡ replicate 64 (marked M.Gone)
+pub noting-begins : (f : Slot → Mark) (xs : List Slot) {marks : List Mark} {order : List ℕ} {taken : List Bool} → marks ≡ replicate 64 M.Gone
     → order ≡ replicate 64 0 → taken ≡ replicate 64 false → Noting f xs marks order 0 taken (replicate 32 false) 0
 noting-begins f xs m o t = rw (m, o, t) (record { most = omega arith; notes = notes-begin })
 
-module _ {f : Slot → Mark} {xs : List Slot} {marks : List Marked} {order : List ℕ} {labels i : ℕ} {taken seen : List Bool} where
+module _ {f : Slot → Mark} {xs : List Slot} {marks : List Mark} {order : List ℕ} {labels i : ℕ} {taken seen : List Bool} where
   pub noting-here : Noting f xs marks order labels taken seen i → i ≡ length (map f (take i xs))
   noting-here g = let m = g .most in sym (length-map (take i xs) f ∙ length-take-le i xs (omega arith))
 
   pub noting-few : Noting f xs marks order labels taken seen i → labels ≤ i
   noting-few g = let m = marks-few [] (map f (take i xs)) in let h = noting-here g in let l = g .notes .noted .labels in omega arith
 
-  pub noting-step : {new : List Marked} (d : Slot) (r : Mark) → i < length xs → r ≡ f (getD xs i d) → marks ≡ new
+  pub noting-step : {new : List Mark} (d : Slot) (r : Mark) → i < length xs → r ≡ f (getD xs i d) → marks ≡ new
       → Notes (map f (take i xs) ++ (r ∷ [])) new order labels taken seen → Noting f xs marks order labels taken seen (i + 1)
   noting-step {new} d r h e w n = record {
     most = omega arith;
     notes =
         subst (λ (l : List Mark). Notes l marks order labels taken seen) (ap (λ (x : Mark). map f (take i xs) ++ (x ∷ [])) e ∙ sym (map-next f xs i d h))
-        (subst (λ (x : List Marked). Notes (map f (take i xs) ++ (r ∷ [])) x order labels taken seen) (sym w) n);
+        (subst (λ (x : List Mark). Notes (map f (take i xs) ++ (r ∷ [])) x order labels taken seen) (sym w) n);
   }
 
   pub noting-ends : Noting f xs marks order labels taken seen i → length xs ≤ i

@@ -1,7 +1,7 @@
 -- The new tags of labels: each the smallest number from 64 up that is not taken.
 use mathlib.Core.List.{List, [], _∷_}
 use mathlib.Core.Bool.{Bool, false, cond}
-use Prim.Native.Nat.{ℕ, zero, suc, _+_, _-_, _<_}
+use Prim.Native.Nat.{ℕ, zero, suc, _+_, _-_}
 use lib.ListN.{getD, set, replicate}
 use Rattle.pack.specs.Fixed.{mappingCap}
 
@@ -24,7 +24,3 @@ unfoldable pub byIndex : List ℕ → List ℕ → List ℕ
 byIndex [] tags = replicate mappingCap 0
 byIndex (i ∷ order) [] = replicate mappingCap 0
 byIndex (i ∷ order) (t ∷ tags) = set (byIndex order tags) i t
-
-abbrev pub EachBelow : ℕ → List ℕ → Type 0
-EachBelow n [] = Unit
-EachBelow n (x ∷ r) = (x < n) × EachBelow n r

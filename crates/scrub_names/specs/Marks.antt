@@ -1,4 +1,4 @@
--- The rows of a reading, marked: what stays, and under which name.
+-- The slots of a reading, marked: what stays, and under which name.
 use mathlib.Core.Path.{_≡_}
 use mathlib.Core.List.{List, [], _∷_, map}
 use mathlib.Core.Bool.{Bool, false, cond}
@@ -39,57 +39,41 @@ abbrev pub marksOf : List Bool → Sheet → List Slot → List Mark
 marksOf flags sheet xs = map (λ (x : Slot). markItem flags sheet (x .item)) xs
 
 -- the numbers that stay
-unfoldable pub numbersOf : List Mark → List ℕ
-numbersOf [] = []
-numbersOf (M.Gone ∷ r) = numbersOf r
-numbersOf (M.Number t ∷ r) = t ∷ numbersOf r
-numbersOf (M.Label i ∷ r) = numbersOf r
+unfoldable pub keptNumbers : List Mark → List ℕ
+keptNumbers [] = []
+keptNumbers (M.Gone ∷ r) = keptNumbers r
+keptNumbers (M.Number t ∷ r) = t ∷ keptNumbers r
+keptNumbers (M.Label i ∷ r) = keptNumbers r
 
 -- the labels that stay, as indices of mappings, in order of first appearance, but for those of `seen`
-unfoldable pub labelsOf : List ℕ → List Mark → List ℕ
-labelsOf seen [] = []
-labelsOf seen (M.Gone ∷ r) = labelsOf seen r
-labelsOf seen (M.Number t ∷ r) = labelsOf seen r
-labelsOf seen (M.Label i ∷ r) = cond (among i seen) (labelsOf seen r) (i ∷ labelsOf (i ∷ seen) r)
+unfoldable pub keptLabels : List ℕ → List Mark → List ℕ
+keptLabels seen [] = []
+keptLabels seen (M.Gone ∷ r) = keptLabels seen r
+keptLabels seen (M.Number t ∷ r) = keptLabels seen r
+keptLabels seen (M.Label i ∷ r) = cond (among i seen) (keptLabels seen r) (i ∷ keptLabels (i ∷ seen) r)
 
--- an element of an array of marks
-pub record Marked : Type 0 where
-  pub mark : Mark
-
-abbrev pub marked : Mark → Marked
-marked m = record { mark = m }
-
--- the numbers of a mark, two of them, and back: the mark whose numbers stand at `at`
-unfoldable pub markNumbers : Mark → List ℕ
-markNumbers M.Gone = 0 ∷ 0 ∷ []
-markNumbers (M.Number t) = 1 ∷ t ∷ []
-markNumbers (M.Label i) = 2 ∷ i ∷ []
-
+-- the mark whose two numbers stand at `at`
 unfoldable pub markAt : List ℕ → ℕ → Mark
 markAt s at = cond (eqb (getD s at 0) 1) (M.Number (getD s (at + 1) 0)) (cond (eqb (getD s at 0) 2) (M.Label (getD s (at + 1) 0)) M.Gone)
 
 -- the marks of an array of numbers
-abbrev pub markedAt : List ℕ → ℕ → Marked
-markedAt s at = marked (markAt s at)
+abbrev pub marksIn : List ℕ → List Mark
+marksIn s = cells markAt 2 itemCap s
 
-abbrev pub marksIn : List ℕ → List Marked
-marksIn s = cells markedAt 2 itemCap s
-
--- the marks of the rows, the kept labels in order of first appearance and how many they are, and which of the numbers 64 to 127 are kept
+-- the marks of the slots, the kept labels in order of first appearance and how many they are, and which of the numbers 64 to 127 are kept
 pub record Names : Type 0 where
-  pub marks : List Marked
+  pub marks : List Mark
   pub order : List ℕ
   pub labels : ℕ
   pub taken : List Bool
 
 -- what is noted of the marks: they themselves, the labels in order, and which numbers from 64 to 127 are taken
 pub record Noted (ms : List Mark) (r : Names) : Type 0 where
-  pub marks : r .marks ≡ padded itemCap (marked M.Gone) (map marked ms)
-  pub order : r .order ≡ padded itemCap 0 (labelsOf [] ms)
-  pub labels : r .labels ≡ length (labelsOf [] ms)
-  pub taken : (n : ℕ) → n < 64 → getD (r .taken) n false ≡ among (64 + n) (numbersOf ms)
+  pub marks : r .marks ≡ padded itemCap M.Gone ms
+  pub order : r .order ≡ padded itemCap 0 (keptLabels [] ms)
+  pub labels : r .labels ≡ length (keptLabels [] ms)
+  pub taken : (n : ℕ) → n < 64 → getD (r .taken) n false ≡ among (64 + n) (keptNumbers ms)
 
--- the labels stand in the pack
-abbrev pub PlacesFit : List ℕ → List ℕ → Type 0
-PlacesFit s [] = Unit
-PlacesFit s (p ∷ r) = (p + 16 ≤ length s) × PlacesFit s r
+-- a label stands at this place of the pack
+abbrev pub HasLabel : List ℕ → ℕ → Type 0
+HasLabel s p = p + 16 ≤ length s

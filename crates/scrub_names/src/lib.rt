@@ -2,21 +2,22 @@
 ghost use mathlib.Core.Path.{_≡_};
 ghost use mathlib.Core.Bool.{false};
 ghost use mathlib.Core.List.{[], _∷_};
-ghost use Prim.Native.Nat.{_+_, _*_, _<_, _≤_};
+ghost use Prim.Native.Nat.{ℕ, _+_, _*_, _<_, _≤_};
 ghost use lib.ListN.{length, take, set, replicate};
 ghost use Rattle.runs.specs.Over.{over};
+ghost use Rattle.runs.specs.Those.{Each};
 ghost use Rattle.pack.specs.Fixed.{itemCap, mappingCap};
 ghost use Rattle.pack.specs.Slots.{padded};
 ghost use Rattle.pack.specs.Fits.{NameFits, ItemFits, SlotsFit};
 ghost use Rattle.pack_slots.specs.Slots.{slotsIn};
 ghost use Rattle.scrub_sheet.specs.Asked.{asks, EntriesThere, Short};
-ghost use Rattle.scrub_names.specs.Marks.{flagsOf, markName, markItem, marksOf, marked, markAt, marksIn, Noted, PlacesFit};
-ghost use Rattle.scrub_names.specs.Given.{clearAt, given, byIndex, EachBelow};
+ghost use Rattle.scrub_names.specs.Marks.{flagsOf, markName, markItem, marksOf, markAt, marksIn, Noted, HasLabel};
+ghost use Rattle.scrub_names.specs.Given.{clearAt, given, byIndex};
 use pack::Item;
 use pack::Name;
 use scrub_sheet::Asked;
 
-// A row of a reading that goes, or that stays under a number or under the label of a mapping. A Sync has no name.
+// A slot of a reading that goes, or that stays under a number or under the label of a mapping. A Sync has no name.
 pub enum Mark {
     Gone,
     Number(u32),
@@ -25,7 +26,7 @@ pub enum Mark {
 
 // For each label of the pack whether the sheet keeps it.
 pub fn flags(s: &[u8], asked: Asked, p: &[u8], places: &[u32; 32], mapped: usize) -> [bool; 32]
-    requires { ⌜ (mapped ≤ 32) × PlacesFit (now p) (take mapped (now places)) × EntriesThere (now s) asked ⌝ }
+    requires { ⌜ (mapped ≤ 32) × Each (HasLabel (now p)) (take mapped (now places)) × EntriesThere (now s) asked ⌝ }
     ensures { λ r. ⌜ r ≡ padded mappingCap false (flagsOf (asks (now (s .entry)) asked) (now (p .entry)) (take mapped (now (places .entry)))) ⌝ }
 {
     // a slice, whose length is known
@@ -89,7 +90,7 @@ fn put_two(out: &mut [u32], at: usize, first: u32, second: u32)
 // Puts a mark into the cell `i`: 0 for what goes, 1 and the number, 2 and the label.
 fn put_mark(marks: &mut [u32; 128], i: usize, mark: Mark)
     requires { ⌜ i < itemCap ⌝ }
-    ensures { λ _. ⌜ marksIn (now (marks .exit)) ≡ set (marksIn (now (marks .entry))) i (marked mark) ⌝ }
+    ensures { λ _. ⌜ marksIn (now (marks .exit)) ≡ set (marksIn (now (marks .entry))) i mark ⌝ }
 {
     match mark {
         Mark::Gone => put_two(marks, 2 * i, 0, 0),
@@ -115,7 +116,7 @@ pub fn mark_in(marks: &[u32; 128], i: usize) -> Mark
     Mark::Gone
 }
 
-// Marks the first `count` rows of a reading: fills `marks`, `order` with the kept labels in order of first appearance, and `taken` with which of
+// Marks the first `count` slots of a reading: fills `marks`, `order` with the kept labels in order of first appearance, and `taken` with which of
 // the numbers 64 to 127 are kept. All three come empty. The answer is how many labels are kept.
 pub fn note(
     s: &[u8],
@@ -191,7 +192,7 @@ pub fn assign(taken: &[bool; 64], count: usize, tags: &mut [u32; 64])
 
 // The new tags by the index of the mapping, 0 where a label goes.
 pub fn by_index(order: &[u32; 64], tags: &[u32; 64], count: usize) -> [u32; 32]
-    requires { ⌜ (count ≤ 64) × EachBelow mappingCap (take count (now order)) ⌝ }
+    requires { ⌜ (count ≤ 64) × Each (λ (i : ℕ). i < mappingCap) (take count (now order)) ⌝ }
     ensures { λ r. ⌜ r ≡ byIndex (take count (now (order .entry))) (now (tags .entry)) ⌝ }
 {
     // slices, whose lengths are known

@@ -1,2 +1,2 @@
-pub mod Rows
+pub mod Items
 pub mod Going

@@ -1,4 +1,4 @@
--- The writes for the rows of a reading, worked out from the last row to the first, so that a Sync knows the size of what is inside.
+-- The writes for the slots of a reading, worked out from the last slot to the first, so that a Sync knows the size of what is inside.
 use mathlib.Core.Path.{_≡_}
 use mathlib.Core.List.{List, [], _∷_}
 use mathlib.Core.Bool.{cond}
@@ -13,12 +13,11 @@ use Rattle.pack.specs.declared.Slot.{Slot}
 use Rattle.pack.specs.Fixed.{packCap, mappingCap}
 use Rattle.scrub_names.specs.declared.Mark.{Mark}
 use Rattle.scrub_names.specs.declared.Mark.the-variants as M
-use Rattle.scrub_names.specs.Marks.{Marked}
 use Rattle.scrub_write.specs.declared.Op.the-variants.{Skip, Put, Open}
-use Rattle.scrub_write.specs.Ops.{OpSlot}
-use Rattle.scrub_plan.specs.declared.Step.{Step}
+use Rattle.scrub_write.specs.declared.Op.{Op}
+use Rattle.scrub_plan.specs.declared.SlotPlan.{SlotPlan}
 
--- the tag that a marked row is written with, 0 if it goes; `index` has the new tags of labels
+-- the tag that a slot with this mark is written with, 0 if it goes; `index` has the new tags of labels
 abbrev pub tagOf : List ℕ → Mark → ℕ
 tagOf index M.Gone = 0
 tagOf index (M.Number t) = t
@@ -28,17 +27,17 @@ tagOf index (M.Label i) = getD index i 0
 abbrev pub sized : ℕ → ℕ → ℕ
 sized t l = length (tagBytes t) + (length (lengthBytes l) + l)
 
--- one row: its write, the bytes inside a Sync that is still to come, and its size. `inner` is what stands inside so far
-unfoldable pub stepOf : Item → ℕ → ℕ → Step
-stepOf (I.Single x) t inner =
+-- one slot: its write, the bytes inside a Sync that is still to come, and its size. `inner` is what stands inside so far
+unfoldable pub slotPlan : Item → ℕ → ℕ → SlotPlan
+slotPlan (I.Single x) t inner =
     cond (eqb t 0)
     (record { op = Skip; inner = 0; size = 0 })
     (record { op = Put t (x .«value_start») (x .«value_len»); inner = 0; size = sized t (x .«value_len») })
-stepOf (I.Inner x) t inner =
+slotPlan (I.Inner x) t inner =
     cond (eqb t 0)
     (record { op = Skip; inner = inner; size = 0 })
     (record { op = Put t (x .«value_start») (x .«value_len»); inner = sized t (x .«value_len») + inner; size = sized t (x .«value_len») })
-stepOf (I.Sync h) t inner =
+slotPlan (I.Sync h) t inner =
     cond (eqb inner 0)
     (record { op = Skip; inner = 0; size = 0 })
     (record { op = Open inner (h .offset) (h .duration); inner = 0; size = 1 + (length (lengthBytes (4 + inner)) + 4) })
@@ -46,23 +45,23 @@ stepOf (I.Sync h) t inner =
 pub record Planned : Type 0 where
   pub inner : ℕ
   pub total : ℕ
-  pub ops : List OpSlot
+  pub ops : List Op
 
-abbrev pub joined : Step → Planned → Planned
-joined s p = record { inner = s .inner; total = s .size + p .total; ops = record { op = s .op } ∷ p .ops }
+abbrev pub joined : SlotPlan → Planned → Planned
+joined s p = record { inner = s .inner; total = s .size + p .total; ops = s .op ∷ p .ops }
 
-unfoldable pub planned : List ℕ → List Slot → List Marked → Planned
+unfoldable pub planned : List ℕ → List Slot → List Mark → Planned
 planned index [] ms = record { inner = 0; total = 0; ops = [] }
 planned index (x ∷ xs) [] = record { inner = 0; total = 0; ops = [] }
-planned index (x ∷ xs) (m ∷ ms) = joined (stepOf (x .item) (tagOf index (m .mark)) ((planned index xs ms) .inner)) (planned index xs ms)
+planned index (x ∷ xs) (m ∷ ms) = joined (slotPlan (x .item) (tagOf index m) ((planned index xs ms) .inner)) (planned index xs ms)
 
 -- the writes in order, and how many bytes they make
 pub record Plan : Type 0 where
-  pub ops : List OpSlot
+  pub ops : List Op
   pub size : ℕ
 
--- what the plan of these rows is
-pub record Plans (index : List ℕ) (xs : List Slot) (ms : List Marked) (r : Plan) : Type 0 where
+-- what the plan of these slots is
+pub record Plans (index : List ℕ) (xs : List Slot) (ms : List Mark) (r : Plan) : Type 0 where
   pub ops : r .ops ≡ (planned index xs ms) .ops
   pub size : r .size ≡ (planned index xs ms) .total
   pub small : r .size < 3000000
@@ -73,15 +72,10 @@ ItemSmall (I.Single x) = x .«value_len» ≤ packCap
 ItemSmall (I.Inner x) = x .«value_len» ≤ packCap
 ItemSmall (I.Sync h) = Unit
 
-abbrev pub RowsSmall : List Slot → Type 0
-RowsSmall [] = Unit
-RowsSmall (x ∷ r) = ItemSmall (x .item) × RowsSmall r
+abbrev pub SlotSmall : Slot → Type 0
+SlotSmall x = ItemSmall (x .item)
 
 abbrev pub MarkFits : Mark → Type 0
 MarkFits M.Gone = Unit
 MarkFits (M.Number t) = Unit
 MarkFits (M.Label i) = i < mappingCap
-
-abbrev pub MarksFit : List Marked → Type 0
-MarksFit [] = Unit
-MarksFit (m ∷ r) = MarkFits (m .mark) × MarksFit r

@@ -1,11 +1,12 @@
-// The plan pass: from marked rows, the writes and their size.
+// The plan pass: from marked slots, the writes and their size.
 ghost use mathlib.Core.Path.{_≡_};
 ghost use Prim.Native.Nat.{_+_, _≤_};
 ghost use lib.ListN.{take, replicate};
+ghost use Rattle.runs.specs.Those.{Each};
 ghost use Rattle.pack_slots.specs.Slots.{slotsIn};
 ghost use Rattle.scrub_names.specs.Marks.{marksIn};
 ghost use Rattle.scrub_write.specs.Ops.{opsIn};
-ghost use Rattle.scrub_plan.specs.Planned.{tagOf, sized, stepOf, Plans, ItemSmall, RowsSmall, MarkFits, MarksFit};
+ghost use Rattle.scrub_plan.specs.Planned.{tagOf, sized, slotPlan, Plans, ItemSmall, SlotSmall, MarkFits};
 ghost use Rattle.pack.specs.declared.Item.the-variants as I;
 use pack::Head;
 use pack::Item;
@@ -13,14 +14,14 @@ use pack::Payload;
 use scrub_names::Mark;
 use scrub_write::Op;
 
-// What a row adds: its write, the bytes inside a Sync that is still to come, and its size.
-pub struct Step {
+// What a slot adds: its write, the bytes inside a Sync that is still to come, and its size.
+pub struct SlotPlan {
     pub op: Op,
     pub inner: u32,
     pub size: u32,
 }
 
-// The tag that a row is written with, 0 if it goes.
+// The tag that a slot is written with, 0 if it goes.
 fn tag_of(mark: Mark, index: &[u32; 32]) -> u32
     requires { ⌜ MarkFits mark ⌝ }
     ensures { λ r. ⌜ r ≡ tagOf (now (index .entry)) mark ⌝ }
@@ -39,13 +40,13 @@ fn element_size(tag: u32, len: u32) -> u32
     (numbers::tag_size(tag) + numbers::length_size(len)) as u32 + len
 }
 
-// The step of a payload outside a Sync, with its tag.
-fn plan_payload(x: Payload, tag: u32) -> Step
+// The plan of a payload outside a Sync, with its tag.
+fn plan_payload(x: Payload, tag: u32) -> SlotPlan
     requires { ⌜ x .«value_len» ≤ 32768 ⌝ }
-    ensures { λ r. ⌜ (r ≡ stepOf (I.Single x) tag 0) × (r .size ≤ 40000) × (r .inner ≡ 0) ⌝ }
+    ensures { λ r. ⌜ (r ≡ slotPlan (I.Single x) tag 0) × (r .size ≤ 40000) × (r .inner ≡ 0) ⌝ }
 {
     if tag == 0 {
-        return Step {
+        return SlotPlan {
             op: Op::Skip,
             inner: 0,
             size: 0,
@@ -57,16 +58,16 @@ fn plan_payload(x: Payload, tag: u32) -> Step
         start: x.value_start,
         len: x.value_len,
     };
-    Step { op, inner: 0, size }
+    SlotPlan { op, inner: 0, size }
 }
 
-// The step of a Sync, before `inner` bytes of payloads.
-fn plan_sync(h: Head, inner: u32) -> Step
+// The plan of a Sync, before `inner` bytes of payloads.
+fn plan_sync(h: Head, inner: u32) -> SlotPlan
     requires { ⌜ inner ≤ 3000000 ⌝ }
-    ensures { λ r. ⌜ (r ≡ stepOf (I.Sync h) 0 inner) × (r .size ≤ 40000) × (r .inner ≡ 0) ⌝ }
+    ensures { λ r. ⌜ (r ≡ slotPlan (I.Sync h) 0 inner) × (r .size ≤ 40000) × (r .inner ≡ 0) ⌝ }
 {
     if inner == 0 {
-        return Step {
+        return SlotPlan {
             op: Op::Skip,
             inner: 0,
             size: 0,
@@ -78,25 +79,25 @@ fn plan_sync(h: Head, inner: u32) -> Step
         offset: h.offset,
         duration: h.duration,
     };
-    Step {
+    SlotPlan {
         op,
         inner: 0,
         size: 1 + (n + 4),
     }
 }
 
-// The step of a row with its tag, before `inner` bytes of payloads inside the same Sync.
-fn plan_row(item: Item, tag: u32, inner: u32) -> Step
+// The plan of an item with its tag, before `inner` bytes of payloads inside the same Sync.
+fn plan_slot(item: Item, tag: u32, inner: u32) -> SlotPlan
     requires { ⌜ ItemSmall item × (inner ≤ 3000000) ⌝ }
-    ensures { λ r. ⌜ (r ≡ stepOf item tag inner) × (r .size ≤ 40000) × (r .inner ≤ inner + r .size) ⌝ }
+    ensures { λ r. ⌜ (r ≡ slotPlan item tag inner) × (r .size ≤ 40000) × (r .inner ≤ inner + r .size) ⌝ }
 {
     match item {
         Item::Single(x) => plan_payload(x, tag),
         Item::Inner(x) => {
-            let step = plan_payload(x, tag);
-            let op = step.op;
-            let n = step.size;
-            Step {
+            let plan = plan_payload(x, tag);
+            let op = plan.op;
+            let n = plan.size;
+            SlotPlan {
                 op,
                 inner: n + inner,
                 size: n,
@@ -106,15 +107,15 @@ fn plan_row(item: Item, tag: u32, inner: u32) -> Step
     }
 }
 
-// Plans the first `count` rows: fills `ops`, which comes empty, and answers how many bytes the writes make.
-pub fn plan_rows(
+// Plans the first `count` slots: fills `ops`, which comes empty, and answers how many bytes the writes make.
+pub fn plan_slots(
     slots: &[u32; 512],
     marks: &[u32; 128],
     index: &[u32; 32],
     count: usize,
     ops: &mut [u32; 256],
 ) -> u32
-    requires { ⌜ (count ≤ 64) × RowsSmall (take count (slotsIn (now slots))) × MarksFit (marksIn (now marks)) × (now ops ≡ replicate 256 0) ⌝ }
+    requires { ⌜ (count ≤ 64) × Each SlotSmall (take count (slotsIn (now slots))) × Each MarkFits (marksIn (now marks)) × (now ops ≡ replicate 256 0) ⌝ }
     ensures { λ r. ⌜ Plans (now (index .entry)) (take count (slotsIn (now (slots .entry)))) (marksIn (now (marks .entry)))
         (record { ops = take count (opsIn (now (ops .exit))); size = r }) ⌝ }
 {
@@ -126,11 +127,11 @@ pub fn plan_rows(
         let item = pack_slots::item(slots, i);
         let mark = scrub_names::mark_in(marks, i);
         let tag = tag_of(mark, index);
-        let step = plan_row(item, tag, inner);
-        let op = step.op;
+        let plan = plan_slot(item, tag, inner);
+        let op = plan.op;
         scrub_write::put_op(&mut *ops, i, op);
-        inner = step.inner;
-        size += step.size;
+        inner = plan.inner;
+        size += plan.size;
     }
     size
 }

@@ -10,17 +10,20 @@ use Rattle.runs.specs.Over.{over, Wrote}
 use Rattle.runs.proofs.Digits.{length-digits}
 use Rattle.runs.proofs.Over.{take-over, over-over, wrote-byte, wrote-then, wrote-length}
 use Rattle.crc.specs.Crc.{crcOf}
-use Rattle.scrub_write.specs.Laid.{sealed, filled, Packed}
+use Rattle.refusals.specs.Outcomes.{fine}
+use Rattle.scrub_kept.specs.Scrubbed.{leaves}
+use Rattle.scrub_write.specs.Laid.{sealed, Packed}
 
 -- a run up to the end of the list
-pub over-end : (xs : List ℕ) (a : ℕ) (ys : List ℕ) → a + length ys ≡ length xs → over xs a ys ≡ take a xs ++ ys
+over-end : (xs : List ℕ) (a : ℕ) (ys : List ℕ) → a + length ys ≡ length xs → over xs a ys ≡ take a xs ++ ys
 unfolding over
 over-end xs a ys h =
     ap (λ (l : List ℕ). take a xs ++ l) (ap (λ (l : List ℕ). ys ++ l) (drop-of-length-le xs {i = a + length ys} (omega arith)) ∙ append-nil ys)
 
 -- 0 from the end of a run on
-pub cleared : {xs us vs : List ℕ} {at n : ℕ} (ys : List ℕ) → at + length ys ≤ length xs → Wrote xs at ys n us → vs ≡ over us n (replicate (length us - n) 0)
-    → vs ≡ filled xs (take at xs ++ ys)
+cleared : {xs us vs : List ℕ} {at n : ℕ} (ys : List ℕ) → at + length ys ≤ length xs → Wrote xs at ys n us → vs ≡ over us n (replicate (length us - n) 0)
+    → vs ≡ leaves xs (fine (take at xs ++ ys))
+unfolding leaves
 cleared {xs} {us} {vs} {at} {n} ys h w e =
     let l : length us ≡ length xs = wrote-length h w in
     let k = length xs - (at + length ys) in
@@ -58,10 +61,10 @@ module _ (xs : List ℕ) (at : ℕ) (h : at + 6 ≤ length xs) where
       ∙ ap (take (at + 2)) (two-written .buffer)
       ∙ take-over xs at (3 ∷ 4 ∷ []) (omega arith)
 
-  pub closed : (sum n m : ℕ) (us vs : List ℕ) → sum ≡ crcOf (take (at + 2 - 0) (drop 0 (set (set xs at 3) (at + 1) 4)))
+  pub closed : (sum n : ℕ) (us vs : List ℕ) → sum ≡ crcOf (take (at + 2 - 0) (drop 0 (set (set xs at 3) (at + 1) 4)))
       → Wrote (set (set xs at 3) (at + 1) 4) (at + 2) (digits 256 4 sum) n us → vs ≡ over us n (replicate (length us - n) 0)
       → Packed xs (sealed (take at xs ++ (3 ∷ 4 ∷ []))) n vs
-  closed sum n m us vs s w e =
+  closed sum n us vs s w e =
       let b = take at xs ++ (3 ∷ 4 ∷ []) in
       let d = digits 256 4 (crcOf b) in
       let q : digits 256 4 sum ≡ d = ap (digits 256 4) (s ∙ ap crcOf two-stand) in
@@ -75,19 +78,5 @@ module _ (xs : List ℕ) (at : ℕ) (h : at + 6 ≤ length xs) where
       let whole : take at xs ++ ((3 ∷ 4 ∷ []) ++ d) ≡ b ++ d = sym (append-assoc (take at xs) (3 ∷ 4 ∷ []) d) in
       record {
         size = let z = all .next in omega arith;
-        buffer = cleared ((3 ∷ 4 ∷ []) ++ d) (omega arith) all e ∙ ap (filled xs) whole;
+        buffer = cleared ((3 ∷ 4 ∷ []) ++ d) (omega arith) all e ∙ ap (λ (l : List ℕ). leaves xs (fine l)) whole;
       }
-
-  pub closed-length : length (filled xs (sealed (take at xs ++ (3 ∷ 4 ∷ [])))) ≡ length xs
-  closed-length =
-      let b = take at xs ++ (3 ∷ 4 ∷ []) in
-      let d = digits 256 4 (crcOf b) in
-      let k = length xs - length (b ++ d) in
-      let zeros : List ℕ = replicate k 0 in
-      let r : length zeros ≡ k = length-replicate k 0 in
-      let t : length (take at xs) ≡ at = length-take-le at xs (omega arith) in
-      let bl = length-append (take at xs) (3 ∷ 4 ∷ []) in
-      let dl : length d ≡ 4 = length-digits 256 4 (crcOf b) in
-      let sl = length-append b d in
-      let fl = length-append (b ++ d) zeros in
-      omega arith

@@ -8,6 +8,7 @@ use lib.ListN.{length, take, drop, getD, length-append, length-drop, drop-of-len
 use lib.Seq.{drop-cons, length-take-le}
 use Rattle.runs.specs.Digits.{digits}
 use Rattle.runs.specs.Over.{Wrote}
+use Rattle.runs.specs.Those.{Each}
 use Rattle.runs.proofs.Over.{wrote-none, wrote-as}
 use Rattle.runs.proofs.Writing.{Writing, writing-begins, writing-as, writing-run, writing-done}
 use Rattle.runs.proofs.Digits.{length-digits}
@@ -15,7 +16,7 @@ use Rattle.numbers.specs.Tags.{tagBytes}
 use Rattle.numbers.specs.Lengths.{lengthBytes}
 use Rattle.scrub_write.specs.declared.Op.{Op}
 use Rattle.scrub_write.specs.declared.Op.the-variants.{Skip, Put, Open}
-use Rattle.scrub_write.specs.Ops.{opBytes, opsBytes, OpSlot, OpFits, OpsFit}
+use Rattle.scrub_write.specs.Ops.{opBytes, opsBytes, OpFits}
 
 pub value-length : (s : List ℕ) (v l : ℕ) → v + l ≤ length s → length (take l (drop v s)) ≡ l
 value-length s v l h = length-take-le l (drop v s) (simp length-drop (omega arith))
@@ -70,33 +71,33 @@ unfolding opBytes
 open-any s n o d = refl
 
 -- the loop: what is left of the writes
-pub record Left (n : ℕ) (s : List ℕ) (all : List OpSlot) (xs : List ℕ) (a : ℕ) (us : List ℕ) (i at : ℕ) : Type 0 where
+pub record Left (n : ℕ) (s : List ℕ) (all : List Op) (xs : List ℕ) (a : ℕ) (us : List ℕ) (i at : ℕ) : Type 0 where
   pub most : i ≤ n
   pub long : length all ≡ n
-  pub fits : OpsFit s (drop i all)
+  pub fits : Each (OpFits s) (drop i all)
   pub writing : Writing xs a (opsBytes s all) us at (opsBytes s (drop i all))
 
-pub left-begins : (n : ℕ) (s : List ℕ) (all : List OpSlot) (xs : List ℕ) (a : ℕ) → length all ≡ n → a + length (opsBytes s all) ≤ length xs → OpsFit s all → Left n s all xs a xs 0 a
+pub left-begins : (n : ℕ) (s : List ℕ) (all : List Op) (xs : List ℕ) (a : ℕ) → length all ≡ n → a + length (opsBytes s all) ≤ length xs → Each (OpFits s) all → Left n s all xs a xs 0 a
 left-begins n s all xs a l h f = record { most = omega arith; long = l; fits = f; writing = writing-begins xs a (opsBytes s all) h }
 
-module _ {n : ℕ} {s : List ℕ} {all : List OpSlot} {xs : List ℕ} {a : ℕ} {us : List ℕ} {i at : ℕ} (g : Left n s all xs a us i at) where
-  module _ (d : OpSlot) (h : i < n) where
+module _ {n : ℕ} {s : List ℕ} {all : List Op} {xs : List ℕ} {a : ℕ} {us : List ℕ} {i at : ℕ} (g : Left n s all xs a us i at) where
+  module _ (d : Op) (h : i < n) where
     left-here : drop i all ≡ getD all i d ∷ drop (i + 1) all
     left-here = drop-cons all i d (omega (arith, g .long)) ∙ ap (λ (k : ℕ). getD all i d ∷ drop k all) (sym (add-one i))
 
-    left-both : OpFits s ((getD all i d) .op) × OpsFit s (drop (i + 1) all)
-    left-both = subst (OpsFit s) left-here (g .fits)
+    left-both : OpFits s (getD all i d) × Each (OpFits s) (drop (i + 1) all)
+    left-both = subst (Each (OpFits s)) left-here (g .fits)
 
-    left-writing : Writing xs a (opsBytes s all) us at (opBytes s ((getD all i d) .op) ++ opsBytes s (drop (i + 1) all))
+    left-writing : Writing xs a (opsBytes s all) us at (opBytes s (getD all i d) ++ opsBytes s (drop (i + 1) all))
     unfolding opsBytes
     left-writing = writing-as (ap (opsBytes s) left-here) (g .writing)
 
     -- the write that comes next, as it was read
-    module _ {o : Op} (e : o ≡ (getD all i d) .op) where
+    module _ {o : Op} (e : o ≡ getD all i d) where
       pub left-room : (at + length (opBytes s o) ≤ length us) × OpFits s o
       left-room =
           let r = left-writing .room in
-          let l = length-append (opBytes s ((getD all i d) .op)) (opsBytes s (drop (i + 1) all)) in
+          let l = length-append (opBytes s (getD all i d)) (opsBytes s (drop (i + 1) all)) in
           rw e (omega arith, left-both .0)
 
       pub left-step : {m : ℕ} {vs : List ℕ} → Wrote us at (opBytes s o) m vs → Left n s all xs a vs (i + 1) m
@@ -104,7 +105,7 @@ module _ {n : ℕ} {s : List ℕ} {all : List OpSlot} {xs : List ℕ} {a : ℕ} 
         most = omega arith;
         long = g .long;
         fits = left-both .1;
-        writing = writing-run (opBytes s ((getD all i d) .op)) (opsBytes s (drop (i + 1) all)) left-writing (wrote-as (ap (opBytes s) e) p);
+        writing = writing-run (opBytes s (getD all i d)) (opsBytes s (drop (i + 1) all)) left-writing (wrote-as (ap (opBytes s) e) p);
       }
 
   pub left-ends : n ≤ i → Wrote xs a (opsBytes s all) at us

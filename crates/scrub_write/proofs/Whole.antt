@@ -4,14 +4,12 @@ use mathlib.Core.List.{List, [], _∷_, _++_, append-assoc}
 use Prim.Native.Nat.{ℕ, _+_, _-_, _≤_}
 use native.Mathlib.Omega.{arith}
 use lib.ListN.{length, take, replicate, length-append}
-use Rattle.runs.specs.Digits.{digits}
 use Rattle.runs.specs.Over.{Wrote}
-use Rattle.runs.proofs.Digits.{length-digits}
 use Rattle.runs.proofs.Over.{take-over, wrote-length}
 use Rattle.runs.proofs.Writing.{Writing, writing-begins}
 use Rattle.numbers.specs.Lengths.{lengthBytes}
-use Rattle.crc.specs.Crc.{crcOf}
 use Rattle.pack.specs.Fixed.{key}
+use Rattle.scrub_kept.specs.Scrubbed.{leaves}
 use Rattle.scrub_write.specs.Laid.{framed, sealed, Packed}
 
 -- key and length
@@ -33,7 +31,7 @@ whole-begins xs size config ops e h =
     writing-begins xs 0 (starts size ++ (config ++ ops)) (omega arith)
 
 -- what stands before the end
-pub before-end : {xs us : List ℕ} {n : ℕ} (ys : List ℕ) → Wrote xs 0 ys n us → take n us ≡ ys
+before-end : {xs us : List ℕ} {n : ℕ} (ys : List ℕ) → Wrote xs 0 ys n us → take n us ≡ ys
 before-end {xs} {us} {n} ys w =
     ap₂ take (w .next) (w .buffer) ∙ take-over xs 0 ys (omega arith)
 
@@ -42,6 +40,7 @@ framed-is size content e = ap (λ (n : ℕ). (starts n ++ content) ++ (3 ∷ 4 �
 
 pub whole-ends : {xs us vs : List ℕ} {n r : ℕ} (size : ℕ) (content : List ℕ) → size ≡ length content + 6 → 16 + length (lengthBytes size) + size ≤ length xs
     → Wrote xs 0 (starts size ++ content) n us → Packed us (sealed (take n us ++ (3 ∷ 4 ∷ []))) r vs → Packed xs (sealed (framed content)) r vs
+unfolding leaves
 whole-ends {xs} {us} {vs} {n} {r} size content e h w p =
     let l = starts-length size in
     let a = length-append (starts size) content in
@@ -51,15 +50,3 @@ whole-ends {xs} {us} {vs} {n} {r} size content e h w p =
       size = p .size ∙ ap (λ (x : List ℕ). length (sealed x)) q;
       buffer = p .buffer ∙ ap₂ (λ (m : ℕ) (x : List ℕ). sealed x ++ replicate (m - length (sealed x)) 0) same q;
     }
-
--- how long it is
-pub sealed-length : (size : ℕ) (content : List ℕ) → size ≡ length content + 6 → length (sealed (framed content)) ≡ 16 + length (lengthBytes size) + size
-sealed-length size content e =
-    let b = framed content in
-    let d = length-append b (digits 256 4 (crcOf b)) in
-    let g = length-digits 256 4 (crcOf b) in
-    let q = ap length (framed-is size content e) in
-    let a = length-append (starts size ++ content) (3 ∷ 4 ∷ []) in
-    let c = length-append (starts size) content in
-    let l = starts-length size in
-    omega arith

@@ -2,16 +2,21 @@
 use mathlib.Core.Path.{_≡_}
 use mathlib.Core.List.{List, [], _∷_, _++_}
 use mathlib.Core.Bool.{cond, _&&_}
-use Prim.Native.Nat.{ℕ, _+_, _-_, _*_, _<_, _≤_, _^_}
+use Prim.Native.Nat.{ℕ, _+_, _*_, _<_, _≤_}
 use lib.Dec.{eqb}
-use lib.ListN.{length, take, drop, getD, replicate}
+use lib.ListN.{length, take, drop, getD}
 use Rattle.runs.specs.Digits.{digits}
+use Rattle.runs.specs.Those.{Each}
+use Rattle.refusals.specs.Outcomes.{fine}
 use Rattle.numbers.specs.Lengths.{lengthBytes}
 use Rattle.crc.specs.Crc.{crcOf}
 use Rattle.pack.specs.Fixed.{key}
 use Rattle.pack_layout.specs.Layout.{Entry, configBytes}
 use Rattle.scrub_kept.specs.Written.{asConfig}
-use Rattle.scrub_write.specs.Ops.{OpSlot, opsBytes, OpsFit}
+use Rattle.scrub_kept.specs.Scrubbed.{leaves}
+use Rattle.scrub_write.specs.declared.Op.{Op}
+use Rattle.scrub_write.specs.declared.Laid.{Laid}
+use Rattle.scrub_write.specs.Ops.{opsIn, opsBytes, OpFits}
 
 -- the mappings that are written: a new tag, and the label that stands at the place of an old mapping of the pack s
 unfoldable pub entriesAt : List ℕ → List ℕ → List ℕ → List ℕ → List Entry
@@ -35,30 +40,31 @@ framed content = key ++ (lengthBytes (length content + 6) ++ (content ++ (3 ∷ 
 abbrev pub sealed : List ℕ → List ℕ
 sealed b = b ++ digits 256 4 (crcOf b)
 
--- a buffer that holds b, and 0 to its end
-abbrev pub filled : List ℕ → List ℕ → List ℕ
-filled before b = b ++ replicate (length before - length b) 0
-
--- what writing a whole pack promises
+-- what writing a whole pack promises: the buffer holds b, and 0 to its end
 pub record Packed (before b : List ℕ) (answer : ℕ) (after : List ℕ) : Type 0 where
   pub size : answer ≡ length b
-  pub buffer : after ≡ filled before b
+  pub buffer : after ≡ leaves before (fine b)
 
--- tags of one byte, and labels that stand in the pack
+-- for each mapping a tag of one byte, and a label that stands in the pack
 abbrev pub EntriesFit : List ℕ → List ℕ → List ℕ → List ℕ → Type 0
 EntriesFit s places [] tags = Unit
-EntriesFit s places (i ∷ order) [] = Unit
+EntriesFit s places (i ∷ order) [] = ⊥
 EntriesFit s places (i ∷ order) (t ∷ tags) =
     (i < length places) × (t < 128) × (getD places i 0 + 16 ≤ length s) × EntriesFit s places order tags
 
 -- what stands between the pack's length and its CRC
-abbrev pub contentAt : List ℕ → ℕ → List ℕ → List ℕ → List ℕ → List OpSlot → List ℕ
+abbrev pub contentAt : List ℕ → ℕ → List ℕ → List ℕ → List ℕ → List Op → List ℕ
 contentAt s offset places order tags ops = configAt s offset places order tags ++ opsBytes s ops
 
--- a pack that can be written: its parts can, its size is known, and there is room for it
-pub record Packs (s : List ℕ) (offset : ℕ) (places order tags : List ℕ) (ops : List OpSlot) (size room : ℕ) : Type 0 where
-  pub entries : EntriesFit s places order tags
-  pub writes : OpsFit s ops
-  pub counted : size ≡ length (contentAt s offset places order tags ops) + 6
-  pub small : size < 2 ^ 32
-  pub fits : 16 + length (lengthBytes size) + size ≤ room
+-- the same of the pack that these arrays and numbers lay out
+abbrev pub laidOut : List ℕ → List ℕ → List ℕ → List ℕ → List ℕ → Laid → List ℕ
+laidOut s places order tags ops laid = contentAt s (laid .offset) places (take (laid .labels) order) tags (take (laid .writes) (opsIn ops))
+
+-- a pack that can be written: its parts can, and its size is known
+pub record Packs (s places order tags ops : List ℕ) (laid : Laid) : Type 0 where
+  pub few : (laid .labels ≤ 64) × (laid .writes ≤ 64)
+  pub mapped : length (take (laid .labels) order) ≡ laid .labels
+  pub entries : EntriesFit s places (take (laid .labels) order) tags
+  pub writes : Each (OpFits s) (take (laid .writes) (opsIn ops))
+  pub counted : laid .size ≡ length (laidOut s places order tags ops laid) + 6
+  pub small : laid .size < 4000000

@@ -17,13 +17,9 @@ opBytes s Skip = []
 opBytes s (Put t v l) = tagBytes t ++ (lengthBytes l ++ take l (drop v s))
 opBytes s (Open n o d) = tagBytes 2 ++ (lengthBytes (4 + n) ++ (digits 256 2 o ++ digits 256 2 d))
 
--- one of the writes of a scrub
-pub record OpSlot : Type 0 where
-  pub op : Op
-
-unfoldable pub opsBytes : List ℕ → List OpSlot → List ℕ
+unfoldable pub opsBytes : List ℕ → List Op → List ℕ
 opsBytes s [] = []
-opsBytes s (x ∷ r) = opBytes s (x .op) ++ opsBytes s r
+opsBytes s (x ∷ r) = opBytes s x ++ opsBytes s r
 
 -- a tag that can be written, a value that lies in the pack, a size that fits
 abbrev pub OpFits : List ℕ → Op → Type 0
@@ -31,16 +27,7 @@ OpFits s Skip = Unit
 OpFits s (Put t v l) = (t < 128 ^ 4) × (v + l ≤ length s)
 OpFits s (Open n o d) = 4 + n < 2 ^ 32
 
-abbrev pub OpsFit : List ℕ → List OpSlot → Type 0
-OpsFit s [] = Unit
-OpsFit s (x ∷ r) = OpFits s (x .op) × OpsFit s r
-
--- the numbers of a write, four of them, and back
-unfoldable pub opNumbers : Op → List ℕ
-opNumbers Skip = 0 ∷ 0 ∷ 0 ∷ 0 ∷ []
-opNumbers (Put t v l) = 1 ∷ t ∷ v ∷ l ∷ []
-opNumbers (Open n o d) = 2 ∷ n ∷ o ∷ d ∷ []
-
+-- the write whose four numbers stand at `at`
 unfoldable pub opAt : List ℕ → ℕ → Op
 opAt s at =
     cond (eqb (getD s at 0) 1)
@@ -48,8 +35,5 @@ opAt s at =
     (cond (eqb (getD s at 0) 2) (Open (getD s (at + 1) 0) (getD s (at + 2) 0 % 65536) (getD s (at + 3) 0 % 65536)) Skip)
 
 -- the writes of an array
-abbrev pub opSlotAt : List ℕ → ℕ → OpSlot
-opSlotAt s at = record { op = opAt s at }
-
-abbrev pub opsIn : List ℕ → List OpSlot
-opsIn s = cells opSlotAt 4 64 s
+abbrev pub opsIn : List ℕ → List Op
+opsIn s = cells opAt 4 64 s

@@ -1,7 +1,7 @@
 -- `scrub_names::assign` meets its contract. The loop keeps the tags given so far and those that are left.
 use mathlib.Core.Path.{sym, subst}
 use mathlib.Core.List.{List}
-use Prim.Native.Nat.{ℕ, _-_}
+use Prim.Native.Nat.{ℕ, _-_, _<_, _≤_}
 use native.Mathlib.Omega.{arith}
 use borrow.Author.Needs.{needs}
 use Rattle.scrub_names.proofs.Naming.{Giving, giving-begins, giving-step, giving-ends}
@@ -17,47 +17,13 @@ abbrev μ-loop : tie.MeasureT-loop
 loop-holds : tie.Need-loop-holds Inv-loop μ-loop
 loop-holds c = subst (λ (l : List ℕ). Giving (c .args .taken .now) (c .args .count) l 0 0) (sym (c .pre .1)) (giving-begins _ _)
 
-clear-from-requires : tie.Need-clear-from-requires Inv-loop μ-loop
-clear-from-requires c κs = search needs
-
-cast-tags : tie.Need-cast-tags Inv-loop μ-loop
-cast-tags c =
+-- the marks that were passed and the tags that were given are few
+few : (c : tie.After-clear-from Inv-loop μ-loop) → (c .clear-from .result ≤ 4224) × (c .before .before .loop .k < 64)
+few c =
     let b = c .clear-from .ensures .1 in
     let g = c .before .before .loop .inv .most in
     let p = c .before .before .before .pre .0 in
-    omega arith
-
-add-tags : tie.Need-add-tags Inv-loop μ-loop
-add-tags c =
-    let b = c .clear-from .ensures .1 in
-    let g = c .before .before .loop .inv .most in
-    let p = c .before .before .before .pre .0 in
-    omega arith
-
-mul-tags : tie.Need-mul-tags Inv-loop μ-loop
-mul-tags c =
-    let g = c .before .before .loop .inv .most in
-    let p = c .before .before .before .pre .0 in
-    omega arith
-
-element-write-tags : tie.Need-element-write-tags Inv-loop μ-loop
-element-write-tags c =
-    let g = c .before .before .loop .inv .most in
-    let p = c .before .before .before .pre .0 in
-    omega arith
-
-add-next : tie.Need-add-next Inv-loop μ-loop
-add-next c =
-    let b = c .clear-from .ensures .1 in
-    let g = c .before .before .loop .inv .most in
-    let p = c .before .before .before .pre .0 in
-    omega arith
-
-add-k : tie.Need-add-k Inv-loop μ-loop
-add-k c = omega arith
-
-loop-less : tie.Need-loop-less Inv-loop μ-loop
-loop-less c = omega arith
+    (omega arith, omega arith)
 
 loop-again : tie.Need-loop-again Inv-loop μ-loop
 loop-again c = giving-step (c .before .before .loop .inv) _ (c .before .before .before .pre .0) (c .before .loop-test .taken) (c .clear-from .ensures .1) (c .clear-from .ensures .0)
@@ -72,13 +38,13 @@ assign-spec =
     Inv-loop
     μ-loop
     loop-holds
-    clear-from-requires
-    cast-tags
-    add-tags
-    mul-tags
-    element-write-tags
-    add-next
-    add-k
-    loop-less
+    (λ c κs. search needs)
+    (λ c. let f = few c in omega arith)
+    (λ c. let f = few c in omega arith)
+    (λ c. let f = few c in omega arith)
+    (λ c. let f = few c in omega arith)
+    (λ c. let f = few c in omega arith)
+    (λ c. omega arith)
+    (λ c. omega arith)
     loop-again
     returns)

@@ -1,12 +1,13 @@
 -- `scrub_names::by_index` meets its contract. The loop places the tags from the last label to the first.
 use mathlib.Core.Path.{_≡_, sym}
-use Prim.Native.Nat.{_-_, _<_}
+use mathlib.Core.List.{List}
+use Prim.Native.Nat.{ℕ, _-_, _<_, _≤_}
 use native.Mathlib.Omega.{arith}
 use lib.ListN.{length, take, getD}
 use lib.Seq.{length-take-le, getD-take}
 use borrow.Author.Needs.{needs}
-use Rattle.pack.specs.Fixed.{mappingCap}
-use Rattle.scrub_names.proofs.Naming.{Placing, placing-begins, placing-step, placing-ends, below-at}
+use Rattle.runs.proofs.Those.{each-at}
+use Rattle.scrub_names.proofs.Naming.{Placing, placing-begins, placing-step, placing-ends}
 use Rattle.scrub_names.proofs.by_index.Statement.{statement}
 use Rattle.scrub_names.proofs.by_index.Tie as tie
 
@@ -27,57 +28,31 @@ loop-holds c =
     let p = b .pre .0 in
     placing-begins _ _ _ (sym (length-take-le _ _ (omega arith)))
 
-long : (c : tie.In-loop Inv-loop μ-loop) → length (take ((start c) .args .count) ((start c) .args .order .now)) ≡ (start c) .args .count
-long c = let l : length ((start c) .args .order .now) ≡ 64 = search needs in let p = (start c) .pre .0 in length-take-le _ _ (omega arith)
+abbrev labels : tie.In-loop Inv-loop μ-loop → List ℕ
+labels c = take (start c .args .count) (start c .args .order .now)
 
-here : (c : tie.In-loop Inv-loop μ-loop)
-    → getD ((start c) .args .order .now) (c .before .loop .k - 1) 0 ≡ getD (take ((start c) .args .count) ((start c) .args .order .now)) (c .before .loop .k - 1) 0
-here c =
-    let l = long c in
+-- the next place is one of the labels, and there is room for all
+inside : (c : tie.In-loop Inv-loop μ-loop)
+    → (c .before .loop .k - 1 < start c .args .count) × (start c .args .count ≤ 64) × (length (labels c) ≡ start c .args .count)
+    × (length (start c .args .order .now) ≡ 64) × (length (start c .args .tags .now) ≡ 64)
+inside c =
+    let l : length (start c .args .order .now) ≡ 64 = search needs in
+    let t : length (start c .args .tags .now) ≡ 64 = search needs in
+    let p = start c .pre .0 in
+    let n : length (labels c) ≡ start c .args .count = length-take-le _ _ (omega arith) in
     let g = c .before .loop .inv .most in
-    sym (getD-take ((start c) .args .count) ((start c) .args .order .now) (c .before .loop .k - 1) 0 (omega arith))
+    (omega arith, p, n, l, t)
 
-low : (c : tie.In-loop Inv-loop μ-loop) → getD ((start c) .args .order .now) (c .before .loop .k - 1) 0 < 32
-low c =
-    let l = long c in
-    let g = c .before .loop .inv .most in
-    let xs = take ((start c) .args .count) ((start c) .args .order .now) in
-    let j : c .before .loop .k - 1 < length xs = omega arith in
-    rw (here c) (below-at mappingCap xs _ ((start c) .pre .1) j)
+here : (c : tie.In-loop Inv-loop μ-loop) → getD (start c .args .order .now) (c .before .loop .k - 1) 0 ≡ getD (labels c) (c .before .loop .k - 1) 0
+here c = sym (getD-take (start c .args .count) (start c .args .order .now) (c .before .loop .k - 1) 0 (inside c .0))
 
-sub-k : tie.Need-sub-k Inv-loop μ-loop
-sub-k c = omega arith
-
-mul-i : tie.Need-mul-i Inv-loop μ-loop
-mul-i c = let l = long c in let g = c .before .loop .inv .most in let p = (start c) .pre .0 in omega arith
-
-shared-slice-read-i : tie.Need-shared-slice-read-i Inv-loop μ-loop
-shared-slice-read-i c = let l : length ((start (c .before)) .args .order .now) ≡ 64 = search needs in let m = long (c .before) in let g = c .before .before .loop .inv .most in let p = (start (c .before)) .pre .0 in omega arith
-
-cast-i : tie.Need-cast-i Inv-loop μ-loop
-cast-i c = let l = low (c .before) in omega arith
-
-mul-index : tie.Need-mul-index Inv-loop μ-loop
-mul-index c = let l = long (c .before) in let g = c .before .before .loop .inv .most in let p = (start (c .before)) .pre .0 in omega arith
-
-shared-slice-read-index : tie.Need-shared-slice-read-index Inv-loop μ-loop
-shared-slice-read-index c = let r = c .before .before in let l : length ((start r) .args .tags .now) ≡ 64 = search needs in let m = long r in let g = r .before .loop .inv .most in let p = (start r) .pre .0 in omega arith
-
-mul-index-2 : tie.Need-mul-index-2 Inv-loop μ-loop
-mul-index-2 c = let l = low (c .before .before) in omega arith
-
-array-write-index : tie.Need-array-write-index Inv-loop μ-loop
-array-write-index c = low (c .before .before)
-
-loop-less : tie.Need-loop-less Inv-loop μ-loop
-loop-less c = omega arith
+low : (c : tie.In-loop Inv-loop μ-loop) → getD (start c .args .order .now) (c .before .loop .k - 1) 0 < 32
+low c = let i = inside c in rw (here c) (each-at (λ (i : ℕ). i < 32) (labels c) _ 0 (start c .pre .1) (omega arith))
 
 loop-again : tie.Need-loop-again Inv-loop μ-loop
 loop-again c =
     let r = c .before .before in
-    let l = long r in
-    let t : length ((start r) .args .tags .now) ≡ 64 = search needs in
-    let p = (start r) .pre .0 in
+    let i = inside r in
     placing-step _ (r .before .loop .inv) (r .loop-test .taken) (omega arith) (here r)
 
 returns : tie.Need-returns Inv-loop μ-loop
@@ -90,14 +65,14 @@ by-index-spec =
     Inv-loop
     μ-loop
     loop-holds
-    sub-k
-    mul-i
-    shared-slice-read-i
-    cast-i
-    mul-index
-    shared-slice-read-index
-    mul-index-2
-    array-write-index
-    loop-less
+    (λ c. omega arith)
+    (λ c. let i = inside c in omega arith)
+    (λ c. let i = inside (c .before) in omega arith)
+    (λ c. let l = low (c .before) in omega arith)
+    (λ c. let i = inside (c .before) in omega arith)
+    (λ c. let i = inside (c .before .before) in omega arith)
+    (λ c. let l = low (c .before .before) in omega arith)
+    (λ c. low (c .before .before))
+    (λ c. omega arith)
     loop-again
     returns)

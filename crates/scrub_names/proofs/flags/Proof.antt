@@ -1,17 +1,19 @@
 -- `scrub_names::flags` meets its contract. The loop fills the array with what the sheet says of each label.
 use mathlib.Core.Path.{_≡_, refl, sym, ap, _∙_}
+use mathlib.Core.List.{List}
 use mathlib.Core.Bool.{false}
-use Prim.Native.Nat.{ℕ, _-_, _<_}
+use Prim.Native.Nat.{ℕ, _-_, _<_, _≤_}
 use native.Mathlib.Omega.{arith}
 use lib.ListN.{length, take, drop, getD}
 use lib.Seq.{length-take-le, getD-take}
 use borrow.Author.Needs.{needs}
+use Rattle.runs.proofs.Those.{each-at}
 use Rattle.pack.specs.Fixed.{mappingCap}
 use Rattle.pack.specs.Said.{label}
 use Rattle.scrub_kept.specs.Kept.{keeps}
 use Rattle.scrub_sheet.specs.Asked.{asks}
 use Rattle.scrub_names.proofs.Padded.{Filling, filling-step, filling-ends}
-use Rattle.scrub_names.proofs.Naming.{place-fits}
+use Rattle.scrub_names.specs.Marks.{HasLabel}
 use Rattle.scrub_names.proofs.flags.Statement.{statement}
 use Rattle.scrub_names.proofs.flags.Tie as tie
 
@@ -28,46 +30,32 @@ loop-holds c = record { most = omega arith; full = refl }
 abbrev start : tie.In-loop Inv-loop μ-loop → tie.Start Inv-loop μ-loop
 start c = c .before .before .before .before .before
 
-long : (c : tie.In-loop Inv-loop μ-loop) → length (take ((start c) .args .mapped) ((start c) .args .places .now)) ≡ (start c) .args .mapped
-long c = let l : length ((start c) .args .places .now) ≡ 32 = search needs in let p = (start c) .pre .0 in length-take-le _ _ (omega arith)
+abbrev labels : tie.Start Inv-loop μ-loop → List ℕ
+labels b = take (b .args .mapped) (b .args .places .now)
 
-here : (c : tie.In-loop Inv-loop μ-loop)
-    → getD ((start c) .args .places .now) (c .before .loop .i) 0 ≡ getD (take ((start c) .args .mapped) ((start c) .args .places .now)) (c .before .loop .i) 0
-here c = sym (getD-take ((start c) .args .mapped) ((start c) .args .places .now) (c .before .loop .i) 0 (omega arith))
+-- the next place is one of the array's, and there is room for all
+inside : (c : tie.In-loop Inv-loop μ-loop)
+    → (c .before .loop .i < length (labels (start c))) × (length (labels (start c)) ≤ 32) × (length (start c .args .places .now) ≡ 32)
+inside c =
+    let l : length (start c .args .places .now) ≡ 32 = search needs in
+    let p = start c .pre .0 in
+    let n : length (labels (start c)) ≡ start c .args .mapped = length-take-le _ _ (omega arith) in
+    (omega arith, omega arith, l)
 
-mul-place : tie.Need-mul-place Inv-loop μ-loop
-mul-place c = let p = (start c) .pre .0 in omega arith
-
-shared-slice-read-place : tie.Need-shared-slice-read-place Inv-loop μ-loop
-shared-slice-read-place c = let l : length ((start (c .before)) .args .places .now) ≡ 32 = search needs in let p = (start (c .before)) .pre .0 in omega arith
-
-cast-place : tie.Need-cast-place Inv-loop μ-loop
-cast-place c = omega (arith, c .shared-slice-known3 .given (c .before .before .loop .i))
+here : (c : tie.In-loop Inv-loop μ-loop) → getD (start c .args .places .now) (c .before .loop .i) 0 ≡ getD (labels (start c)) (c .before .loop .i) 0
+here c = sym (getD-take (start c .args .mapped) (start c .args .places .now) (c .before .loop .i) 0 (omega arith))
 
 keeps-label-requires : tie.Need-keeps-label-requires Inv-loop μ-loop
 keeps-label-requires c κs =
     let r = c .before in
     let b = start r in
-    let l = long r in
-    let j : r .before .loop .i < length (take (b .args .mapped) (b .args .places .now)) = omega arith in
-    (rw (here r) (place-fits (b .args .p .now) (take (b .args .mapped) (b .args .places .now)) _ (b .pre .1) j), b .pre .2)
-
-array-write-kept : tie.Need-array-write-kept Inv-loop μ-loop
-array-write-kept c = let p = (start (c .before .before)) .pre .0 in omega arith
-
-add-i : tie.Need-add-i Inv-loop μ-loop
-add-i c = omega arith
-
-loop-less : tie.Need-loop-less Inv-loop μ-loop
-loop-less c = omega arith
+    (rw (here r) (each-at (HasLabel (b .args .p .now)) (labels b) _ 0 (b .pre .1) (inside r .0)), b .pre .2)
 
 loop-again : tie.Need-loop-again Inv-loop μ-loop
 loop-again c =
     let r = c .before .before in
     let b = start r in
-    let l = long r in
-    let p = b .pre .0 in
-    filling-step 0 _ (r .before .loop .inv) (omega arith) (omega arith)
+    filling-step 0 _ (r .before .loop .inv) (inside r .0) (inside r .1)
     (c .keeps-label .ensures ∙ ap (λ (q : ℕ). keeps (asks (b .args .s .now) (b .args .asked)) (label (take 16 (drop q (b .args .p .now))))) (here r))
 
 returns : tie.Need-returns Inv-loop μ-loop
@@ -85,12 +73,12 @@ flags-spec =
     Inv-loop
     μ-loop
     loop-holds
-    mul-place
-    shared-slice-read-place
-    cast-place
+    (λ c. let i = inside c in omega arith)
+    (λ c. let i = inside (c .before) in omega arith)
+    (λ c. omega (arith, c .shared-slice-known3 .given (c .before .before .loop .i)))
     keeps-label-requires
-    array-write-kept
-    add-i
-    loop-less
+    (λ c. let i = inside (c .before .before) in omega arith)
+    (λ c. omega arith)
+    (λ c. omega arith)
     loop-again
     returns)

@@ -1,72 +1,57 @@
 -- `scrub_write::write_mapping` meets its contract. Tag and label are written one after the other.
-use mathlib.Core.Path.{_≡_, ap, _∙_}
-use Prim.Native.Nat.{_+_, _-_, _≤_}
+use mathlib.Core.List.{List, _++_}
+use Prim.Native.Nat.{ℕ, _+_, _-_}
 use native.Mathlib.Omega.{arith}
-use lib.ListN.{length, take, drop}
+use lib.ListN.{take, drop}
 use borrow.Author.Needs.{needs}
-use Rattle.runs.proofs.Over.{wrote-then, wrote-as, wrote-length}
+use Rattle.runs.proofs.Writing.{Writing, writing-run}
 use Rattle.numbers.specs.Tags.{tagBytes}
-use Rattle.numbers.proofs.Tags.{length-tag, tag-short}
-use Rattle.scrub_write.proofs.Entries.{label-length, label-part}
-use borrow.Author.Needs.{needs}
+use Rattle.numbers.proofs.Tags.{length-tag}
+use Rattle.scrub_write.proofs.Runs.{room-for, writing-last}
+use Rattle.scrub_write.proofs.Entries.{mapping-begun}
 use Rattle.scrub_write.proofs.write_mapping.Statement.{statement}
 use Rattle.scrub_write.proofs.write_mapping.Tie as tie
 
-add-end : tie.Need-add-end
-add-end c = search needs
+-- the label as a part that is lent
+abbrev label : tie.Start → List ℕ
+label b = take (b .args .place + 16 - b .args .place) (drop (b .args .place) (b .args .p .now))
+
+-- what is still to be written into the buffer us
+abbrev Going : tie.Start → List ℕ → ℕ → List ℕ → Type 0
+Going b us at left = Writing (b .args .out .now) (b .args .at) (tagBytes (b .args .tag) ++ take 16 (drop (b .args .place) (b .args .p .now))) us at left
+
+begun : (b : tie.Start) → Going b (b .args .out .now) (b .args .at) (tagBytes (b .args .tag) ++ label b)
+begun b = mapping-begun (b .args .p .now) (b .args .place) (b .args .tag) (b .args .out .now) (b .args .at) (b .pre .2)
+
+abbrev start : tie.After-write-tag → tie.Start
+start k = k .before .before .before .before
+
+after-tag : (k : tie.After-write-tag) → Going (start k) (k .write-tag .last .0) (k .write-tag .result) (label (start k))
+after-tag k = writing-run _ _ (begun (start k)) (k .write-tag .ensures)
 
 write-tag-requires : tie.Need-write-tag-requires
 write-tag-requires c κs =
     let b = c .before .before .before in
+    let r = room-for (tagBytes (b .args .tag)) (label b) (begun b) in
     let l = length-tag (b .args .tag) in
-    let t : length (tagBytes (b .args .tag)) ≡ 1 = ap length (tag-short (b .args .tag) (b .pre .0)) in
-    let h = b .pre .2 in
-    (omega arith, let z = b .pre .0 in omega arith)
-
-sub-copy : tie.Need-sub-copy
-sub-copy c = search needs
-
-part-copy-start : tie.Need-part-copy-start
-part-copy-start c = search needs
-
-part-copy-end : tie.Need-part-copy-end
-part-copy-end c = search needs
+    let t = b .pre .0 in
+    (omega arith, omega arith)
 
 copy-requires : tie.Need-copy-requires
-copy-requires c κs =
-    let k1 = c .before .before .before .before in
-    let b = k1 .before .before .before .before in
-    let t : length (tagBytes (b .args .tag)) ≡ 1 = ap length (tag-short (b .args .tag) (b .pre .0)) in
-    let h = b .pre .2 in
-    let v : length (take (b .args .place + 16 - b .args .place) (drop (b .args .place) (b .args .p .now))) ≡ 16 =
-    ap length (label-part (b .args .p .now) (b .args .place)) ∙ label-length (b .args .p .now) (b .args .place) (b .pre .1) in
-    let n = k1 .write-tag .ensures .next in
-    let m = wrote-length (let z : b .args .at + length (tagBytes (b .args .tag)) ≤ length (b .args .out .now) = omega arith in z) (k1 .write-tag .ensures) in
-    omega arith
-
-same-length : tie.Need-same-length
-same-length c = search needs
+copy-requires c κs = (after-tag (c .before .before .before .before)) .room
 
 returns : tie.Need-returns
-returns c =
-    let k2 = c .before .before in
-    let k1 = k2 .before .before .before .before .before in
-    let b = k1 .before .before .before .before in
-    let t : length (tagBytes (b .args .tag)) ≡ 1 = ap length (tag-short (b .args .tag) (b .pre .0)) in
-    let h = b .pre .2 in
-    wrote-then (tagBytes (b .args .tag)) (take 16 (drop (b .args .place) (b .args .p .now)))
-    (let z : b .args .at + length (tagBytes (b .args .tag)) ≤ length (b .args .out .now) = omega arith in z)
-    (k1 .write-tag .ensures) (wrote-as (label-part (b .args .p .now) (b .args .place)) (k2 .copy .ensures))
+returns c = writing-last _ (after-tag (c .before .before .before .before .before .before .before)) (c .before .before .copy .ensures)
 
 pub write-mapping-spec : {M : Type 1} → statement M
 write-mapping-spec =
     tie.close
     (tie.spec
-    add-end
+    (λ c. search needs)
     write-tag-requires
-    sub-copy
-    part-copy-start
-    part-copy-end
+    (λ c. search needs)
+    (λ c. search needs)
+    (λ c. search needs)
     copy-requires
-    same-length
+    (λ c. search needs)
     returns)

@@ -1,25 +1,14 @@
 -- `scrub_write::write_op` meets its contract. By cases on the write.
 use Rattle.scrub_write.specs.Ops.{opBytes}
-use Prim.Native.Nat.{_-_}
 use borrow.Author.Needs.{needs}
 use Rattle.scrub_write.proofs.Ops.{skip-wrote, op-asks, op-gives}
-use borrow.Author.Needs.{needs}
 use Rattle.scrub_write.proofs.write_op.Statement.{statement}
 use Rattle.scrub_write.proofs.write_op.Tie as tie
-
-enum-told : tie.Need-enum-told
-enum-told c = search needs
-
-enum-known-op : tie.Need-enum-known-op
-enum-known-op c = search needs
 
 write-put-requires : tie.Need-write-put-requires
 write-put-requires c κs =
     let b = c .before .before .before .before .before .before in
     op-asks (b .args .p .now) (b .args .out .now) (b .args .at) _ (c .before .before .op .given .1) (b .pre .0) (b .pre .1)
-
-enum-known-op-2 : tie.Need-enum-known-op-2
-enum-known-op-2 c = search needs
 
 write-open-requires : tie.Need-write-open-requires
 unfolding opBytes
@@ -32,17 +21,11 @@ returns c =
     let b = c .before .before .before .before in
     skip-wrote (b .args .p .now) (b .args .out .now) (b .args .at) (c .enum-told .given .1)
 
-same-length : tie.Need-same-length
-same-length c = search needs
-
 returns-2 : tie.Need-returns-2
 returns-2 c =
     let k = c .before .before in
     let b = k .before .before .before .before .before .before .before in
     op-gives (b .args .p .now) (b .args .out .now) (b .args .at) _ (k .before .before .before .op .given .1) (k .write-put .ensures)
-
-same-length-2 : tie.Need-same-length-2
-same-length-2 c = search needs
 
 returns-3 : tie.Need-returns-3
 unfolding opBytes
@@ -55,13 +38,13 @@ pub write-op-spec : {M : Type 1} → statement M
 write-op-spec =
     tie.close
     (tie.spec
-    enum-told
-    enum-known-op
+    (λ c. search needs)
+    (λ c. search needs)
     write-put-requires
-    enum-known-op-2
+    (λ c. search needs)
     write-open-requires
     returns
-    same-length
+    (λ c. search needs)
     returns-2
-    same-length-2
+    (λ c. search needs)
     returns-3)

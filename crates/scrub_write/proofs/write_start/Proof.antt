@@ -1,29 +1,13 @@
 -- `scrub_write::write_start` meets its contract. Key and length are written one after the other.
-use Prim.Native.Nat.{_+_, _-_, _≤_}
+use Prim.Native.Nat.{_+_, _≤_}
 use native.Mathlib.Omega.{arith}
 use lib.ListN.{length}
 use borrow.Author.Needs.{needs}
 use Rattle.runs.proofs.Over.{wrote-then}
 use Rattle.numbers.specs.Lengths.{lengthBytes}
 use Rattle.pack.specs.Fixed.{key}
-use borrow.Author.Needs.{needs}
 use Rattle.scrub_write.proofs.write_start.Statement.{statement}
 use Rattle.scrub_write.proofs.write_start.Tie as tie
-
-slice-aggregate-copy : tie.Need-slice-aggregate-copy
-slice-aggregate-copy c = search needs
-
-copy-requires : tie.Need-copy-requires
-copy-requires c κs = search needs
-
-cast-write-length : tie.Need-cast-write-length
-cast-write-length c = search needs
-
-write-length-requires : tie.Need-write-length-requires
-write-length-requires c κs = search needs
-
-same-length : tie.Need-same-length
-same-length c = search needs
 
 returns : tie.Need-returns
 unfolding key
@@ -38,9 +22,9 @@ pub write-start-spec : {M : Type 1} → statement M
 write-start-spec =
     tie.close
     (tie.spec
-    slice-aggregate-copy
-    copy-requires
-    cast-write-length
-    write-length-requires
-    same-length
+    (λ c. search needs)
+    (λ c κs. search needs)
+    (λ c. search needs)
+    (λ c κs. search needs)
+    (λ c. search needs)
     returns)
