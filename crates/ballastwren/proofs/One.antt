@@ -1,44 +1,41 @@
 -- Two outcomes of an export that meet its contract on the same input coincide, lent runs included.
 use Prim.Native.Nat.{ℕ}
-use mathlib.Core.Path.{_≡_, sym, _∙_}
+use mathlib.Core.Path.{_≡_}
 use mathlib.Core.List.{List}
 use lib.ListN.{length}
 use Rattle.runs.proofs.Cases.{one}
-use Rattle.refusals.specs.Outcomes.{Outcome}
+use Rattle.refusals.proofs.One.{lends-one}
 use Rattle.pack.specs.Reading.{checked}
 use Rattle.pack_rows.specs.Rows.{rowsRead}
-use Rattle.scrub_kept.specs.Scrubbed.{scrubbed}
-use Rattle.refusals.specs.Lent.{within}
+use Rattle.scrub_kept.specs.Scrubbed.{scrubbed, leaves}
+use Rattle.refusals.specs.Lent.{within, lent, Lends}
 use Rattle.pmd.specs.Reading.{fieldsRead}
 use Rattle.pmd.specs.Writing.{fieldsWritten}
 use Rattle.pmd.specs.Gain.{levelOf}
-use Rattle.ballastwren.specs.Told.{toldOf, toldGainOf, Given, Left}
+use Rattle.ballastwren.specs.Told.{toldOf, toldGainOf}
 use Rattle.ballastwren.specs.declared.Told.{Told}
 use Rattle.ballastwren.specs.declared.ToldGain.{ToldGain}
-
-given-one : {o : Outcome (List ℕ)} {before us vs : List ℕ} {a b : Told} → Given o before a us → Given o before b vs → (a ≡ b) × (us ≡ vs)
-given-one p q = (p .answers ∙ sym (q .answers), p .run ∙ sym (q .run))
 
 pub bw-check-one : (pack : List ℕ) (a b : Told) → a ≡ toldOf (checked pack) → b ≡ toldOf (checked pack) → a ≡ b
 bw-check-one pack a b = one
 
 pub bw-read-one : (pack before us vs : List ℕ) (a b : Told)
-    → Given (within (length before) (rowsRead pack)) before a us → Given (within (length before) (rowsRead pack)) before b vs → (a ≡ b) × (us ≡ vs)
-bw-read-one pack before us vs a b = given-one
+    → Lends toldOf lent (within (length before) (rowsRead pack)) before a us → Lends toldOf lent (within (length before) (rowsRead pack)) before b vs → (a ≡ b) × (us ≡ vs)
+bw-read-one pack before us vs a b = lends-one
 
 pub bw-scrub-one : (sheet pack before us vs : List ℕ) (a b : Told)
-    → Left (scrubbed sheet pack (length before)) before a us → Left (scrubbed sheet pack (length before)) before b vs → (a ≡ b) × (us ≡ vs)
-bw-scrub-one sheet pack before us vs a b p q = (one (p .answers) (q .answers), one (p .buffer) (q .buffer))
+    → Lends toldOf leaves (scrubbed sheet pack (length before)) before a us → Lends toldOf leaves (scrubbed sheet pack (length before)) before b vs → (a ≡ b) × (us ≡ vs)
+bw-scrub-one sheet pack before us vs a b = lends-one
 
 pub bw-pmd-read-one : (kind : ℕ) (value before us vs : List ℕ) (a b : Told)
-    → Given (within (length before) (fieldsRead kind value)) before a us → Given (within (length before) (fieldsRead kind value)) before b vs
+    → Lends toldOf lent (within (length before) (fieldsRead kind value)) before a us → Lends toldOf lent (within (length before) (fieldsRead kind value)) before b vs
     → (a ≡ b) × (us ≡ vs)
-bw-pmd-read-one kind value before us vs a b = given-one
+bw-pmd-read-one kind value before us vs a b = lends-one
 
 pub bw-pmd-write-one : (kind : ℕ) (numbers before us vs : List ℕ) (a b : Told)
-    → Given (within (length before) (fieldsWritten kind numbers)) before a us → Given (within (length before) (fieldsWritten kind numbers)) before b vs
+    → Lends toldOf lent (within (length before) (fieldsWritten kind numbers)) before a us → Lends toldOf lent (within (length before) (fieldsWritten kind numbers)) before b vs
     → (a ≡ b) × (us ≡ vs)
-bw-pmd-write-one kind numbers before us vs a b = given-one
+bw-pmd-write-one kind numbers before us vs a b = lends-one
 
 pub bw-gain-one : (gain : ℕ) (a b : ToldGain) → a ≡ toldGainOf (levelOf gain) → b ≡ toldGainOf (levelOf gain) → a ≡ b
 bw-gain-one gain a b = one

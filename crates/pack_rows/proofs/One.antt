@@ -5,10 +5,10 @@ use Prim.Native.Nat.{ℕ}
 use lib.ListN.{length}
 use Rattle.refusals.specs.Lent.{within, Delivered}
 use Rattle.refusals.specs.declared.Answer.{Answer}
-use Rattle.refusals.proofs.One.{delivered-one}
+use Rattle.refusals.proofs.One.{lends-one}
 use Rattle.pack_rows.specs.Rows.{rowsRead}
 
 pub rows-one : (pack before us vs : List ℕ) (a b : Answer)
     → Delivered (within (length before) (rowsRead pack)) before a us → Delivered (within (length before) (rowsRead pack)) before b vs
     → (a ≡ b) × (us ≡ vs)
-rows-one pack before us vs a b = delivered-one
+rows-one pack before us vs a b = lends-one

@@ -6,9 +6,9 @@ use lib.ListN.{length}
 use Rattle.refusals.specs.declared.Answer.{Answer}
 use Rattle.refusals.specs.Lent.{within, Delivered}
 use Rattle.pmd.specs.Reading.{fieldsRead}
-use Rattle.refusals.proofs.One.{delivered-one}
+use Rattle.refusals.proofs.One.{lends-one}
 
 pub pmd-read-one : (kind : ℕ) (value before us vs : List ℕ) (a b : Answer)
     → Delivered (within (length before) (fieldsRead kind value)) before a us → Delivered (within (length before) (fieldsRead kind value)) before b vs
     → (a ≡ b) × (us ≡ vs)
-pmd-read-one kind value before us vs a b = delivered-one
+pmd-read-one kind value before us vs a b = lends-one

@@ -61,7 +61,7 @@ use Rattle.scrub.specs.Scrubs.{Scrubs}
 use Rattle.scrub.proofs.One as scrubs
 use Rattle.pmd.specs.Reading as pmd
 use Rattle.pmd.specs.Writing.{fieldsWritten}
-use Rattle.refusals.specs.Lent.{within, Delivered}
+use Rattle.refusals.specs.Lent.{within, lent, Lends, Delivered}
 use Rattle.pmd.specs.Gain.{levelOf}
 use Rattle.pmd.specs.declared.Level.{Level}
 use Rattle.pmd.proofs.RoundTrips as trips
@@ -69,7 +69,7 @@ use Rattle.pmd.proofs.One as gains
 use Rattle.pmd_read.proofs.One as pmd-reads
 use Rattle.pmd_write.proofs.One as pmd-writes
 use Rattle.pack_rows.specs.Rows.{rowsRead}
-use Rattle.ballastwren.specs.Told.{toldOf, toldGainOf, Given, Left}
+use Rattle.ballastwren.specs.Told.{toldOf, toldGainOf}
 use Rattle.ballastwren.specs.declared.Told.{Told}
 use Rattle.ballastwren.specs.declared.ToldGain.{ToldGain}
 use Rattle.ballastwren.proofs.One as exports
@@ -155,7 +155,7 @@ module _ (sheet s : List ℕ) (sh : Sheet) (r : Read) (named : sheetOf sheet ≡
   same-kept-same-buffer t q {before} {other} also offsets items lengths x y =
       let same = scrubbing.scrub-same sheet s t sh r q (length before) named accepted also offsets items ∙ ap (scrubbed sheet t) lengths in
       let cleared = scrubbing.done-same before other (scrubbed sheet s (length before)) lengths in
-      (x .answer ∙ ap (answered length) same ∙ sym (y .answer), λ n done. x .buffer ∙ cleared n (sym (x .answer) ∙ done) ∙ ap (leaves other) same ∙ sym (y .buffer))
+      (x .told ∙ ap (answered length) same ∙ sym (y .told), λ n done. x .run ∙ cleared n (sym (x .told) ∙ done) ∙ ap (leaves other) same ∙ sym (y .run))
 
   -- Changing, adding or removing payloads that the sheet does not name, tag tables or length forms of an accepted pack changes nothing: two packs
   -- that have, item by item, the same payloads that the sheet names are answered the same and leave the same in one buffer.
@@ -165,14 +165,14 @@ module _ (sheet s : List ℕ) (sh : Sheet) (r : Read) (named : sheetOf sheet ≡
   no-trace t q {before} also offsets items x y =
       let tell = keeping.named-tell sh ((meant s r) .items) ((meant t q) .items) items in
       let same = scrubbing.scrub-same sheet s t sh r q (length before) named accepted also offsets tell in
-      (x .answer ∙ ap (answered length) same ∙ sym (y .answer), x .buffer ∙ ap (leaves before) same ∙ sym (y .buffer))
+      (x .told ∙ ap (answered length) same ∙ sym (y .told), x .run ∙ ap (leaves before) same ∙ sym (y .run))
 
   -- Reading the pack that was written gives exactly the pack offset and the kept items of the pack that was scrubbed, and a good CRC.
   pub read-back : {before after : List ℕ} {a : Answer} (n : ℕ) → Bytes s → Scrubs sheet s before a after → a ≡ A.Done n
       → ReadsAs (take n after) (kept sh (meant s r))
   read-back {before} n bytes x done =
-      subst (λ (b : List ℕ). ReadsAs (take n b) (kept sh (meant s r))) (sym (x .buffer))
-      (back.scrub-reads s r sh bytes accepted sheet _ (length before) named (scrubbing.done-front before _ n (sym (x .answer) ∙ done)))
+      subst (λ (b : List ℕ). ReadsAs (take n b) (kept sh (meant s r))) (sym (x .run))
+      (back.scrub-reads s r sh bytes accepted sheet _ (length before) named (scrubbing.done-front before _ n (sym (x .told) ∙ done)))
 
   -- Scrubbing the pack that was written again, by the same sheet and into a buffer of the same length, gives the same answer and the same buffer.
   pub scrub-again : {before other after again : List ℕ} {a b : Answer} (n : ℕ) → Bytes s → Scrubs sheet s before a after → a ≡ A.Done n
@@ -245,12 +245,12 @@ first-appearance ns l t = (labels.label-last ns l, labels.number-last ns t)
 -- A refusal changes no byte of the buffer.
 pub refused-unchanged : (sheet s : List ℕ) {before after : List ℕ} {a : Answer} (why : Refusal) (place : ℕ) → Scrubs sheet s before a after
     → a ≡ A.Refused why place → after ≡ before
-refused-unchanged sheet s {before} why place x given = x .buffer ∙ scrubbing.refused-same before (scrubbed sheet s (length before)) why place (sym (x .answer) ∙ given)
+refused-unchanged sheet s {before} why place x given = x .run ∙ scrubbing.refused-same before (scrubbed sheet s (length before)) why place (sym (x .told) ∙ given)
 
 -- After a pack of n bytes the buffer holds 0 to its end.
 pub rest-cleared : (sheet s : List ℕ) {before after : List ℕ} {a : Answer} (n : ℕ) → Scrubs sheet s before a after
     → a ≡ A.Done n → drop n after ≡ replicate (length before - n) 0
-rest-cleared sheet s {before} n x done = ap (drop n) (x .buffer) ∙ scrubbing.done-rest before (scrubbed sheet s (length before)) n (sym (x .answer) ∙ done)
+rest-cleared sheet s {before} n x done = ap (drop n) (x .run) ∙ scrubbing.done-rest before (scrubbed sheet s (length before)) n (sym (x .told) ∙ done)
 
 -- PMD VALUES
 
@@ -284,20 +284,20 @@ pub bw-check-one : (pack : List ℕ) (a b : Told) → a ≡ toldOf (checked pack
 bw-check-one = exports.bw-check-one
 
 pub bw-read-one : (pack before us vs : List ℕ) (a b : Told)
-    → Given (within (length before) (rowsRead pack)) before a us → Given (within (length before) (rowsRead pack)) before b vs → (a ≡ b) × (us ≡ vs)
+    → Lends toldOf lent (within (length before) (rowsRead pack)) before a us → Lends toldOf lent (within (length before) (rowsRead pack)) before b vs → (a ≡ b) × (us ≡ vs)
 bw-read-one = exports.bw-read-one
 
 pub bw-scrub-one : (sheet pack before us vs : List ℕ) (a b : Told)
-    → Left (scrubbed sheet pack (length before)) before a us → Left (scrubbed sheet pack (length before)) before b vs → (a ≡ b) × (us ≡ vs)
+    → Lends toldOf leaves (scrubbed sheet pack (length before)) before a us → Lends toldOf leaves (scrubbed sheet pack (length before)) before b vs → (a ≡ b) × (us ≡ vs)
 bw-scrub-one = exports.bw-scrub-one
 
 pub bw-pmd-read-one : (kind : ℕ) (value before us vs : List ℕ) (a b : Told)
-    → Given (within (length before) (pmd.fieldsRead kind value)) before a us → Given (within (length before) (pmd.fieldsRead kind value)) before b vs
+    → Lends toldOf lent (within (length before) (pmd.fieldsRead kind value)) before a us → Lends toldOf lent (within (length before) (pmd.fieldsRead kind value)) before b vs
     → (a ≡ b) × (us ≡ vs)
 bw-pmd-read-one = exports.bw-pmd-read-one
 
 pub bw-pmd-write-one : (kind : ℕ) (numbers before us vs : List ℕ) (a b : Told)
-    → Given (within (length before) (fieldsWritten kind numbers)) before a us → Given (within (length before) (fieldsWritten kind numbers)) before b vs
+    → Lends toldOf lent (within (length before) (fieldsWritten kind numbers)) before a us → Lends toldOf lent (within (length before) (fieldsWritten kind numbers)) before b vs
     → (a ≡ b) × (us ≡ vs)
 bw-pmd-write-one = exports.bw-pmd-write-one
 

@@ -2,9 +2,9 @@
 use mathlib.Core.Path.{_≡_}
 use mathlib.Core.List.{List}
 use Prim.Native.Nat.{ℕ}
-use Rattle.runs.proofs.Cases.{one}
+use Rattle.refusals.proofs.One.{lends-one}
 use Rattle.refusals.specs.declared.Answer.{Answer}
 use Rattle.scrub.specs.Scrubs.{Scrubs}
 
 pub scrub-one : (sheet s before : List ℕ) {a b : Answer} {us vs : List ℕ} → Scrubs sheet s before a us → Scrubs sheet s before b vs → (a ≡ b) × (us ≡ vs)
-scrub-one sheet s before p q = (one (p .answer) (q .answer), one (p .buffer) (q .buffer))
+scrub-one sheet s before = lends-one

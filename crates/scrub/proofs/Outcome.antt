@@ -61,7 +61,7 @@ pub sheet-refused : (sheet s before : List ℕ) (x : Asked) → x ≡ sheetAsked
 unfolding scrubbed andThen answered leaves
 sheet-refused sheet s before x e h =
     let z : sheetOf sheet ≡ refused R.Sheet 0 = sym (judged-outcome sheet) ∙ ap (outcome sheet) (sym e) ∙ refused-outcome sheet x h in
-    record { answer = rw z; buffer = rw z }
+    record { told = rw z; run = rw z }
 
 -- THE PACK
 
@@ -90,7 +90,7 @@ module _ (sheet s before : List ℕ) (x : Asked) (good : Good sheet x) {shows : 
   unfolding scrubbed andThen answered leaves
   pack-refused why place h =
       let z : reading s ≡ refused why place = refused-of (λ (r : Read). countOf (r .body .parts)) (reading s) (sym h ∙ told-answer) in
-      record { answer = rw (good .is, z); buffer = rw (good .is, z) }
+      record { told = rw (good .is, z); run = rw (good .is, z) }
 
   pub pack-accepted : (n : ℕ) → shows .answer ≡ A.Done n → Accepts s (record { offset = shows .offset; mapped = shows .mapped; count = n }) places (slotsIn held)
   unfolding shown
@@ -134,7 +134,7 @@ module _ {sheet s : List ℕ} (before : List ℕ) {x : Asked} {found : Found} {p
   unfolding answered leaves
   no-room h =
       let z : scrubbed sheet s (length before) ≡ refused R.NoRoom 0 = room-is ∙ room-short (length before) (written what) (rw (← whole-is) h) in
-      record { answer = rw z; buffer = rw z }
+      record { told = rw z; run = rw z }
 
   pub wrote : (k : ℕ) (after : List ℕ) → whole ≤ length before → whole ≤ packCap
       → Packed before (sealed (framed (laidOut s places order tags ops laid))) k after
@@ -146,6 +146,6 @@ module _ {sheet s : List ℕ} (before : List ℕ) {x : Asked} {found : Found} {p
       let w = whole-is in
       let z : scrubbed sheet s (length before) ≡ fine (written what) = room-is ∙ room-enough (length before) (written what) (omega arith) (omega arith) in
       record {
-        answer = rw z (ap A.Done (p .size ∙ ap length e));
-        buffer = rw z (p .buffer ∙ ap (λ (l : List ℕ). leaves before (fine l)) e);
+        told = rw z (ap A.Done (p .size ∙ ap length e));
+        run = rw z (p .buffer ∙ ap (λ (l : List ℕ). leaves before (fine l)) e);
       }

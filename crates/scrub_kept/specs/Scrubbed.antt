@@ -26,10 +26,6 @@ unfoldable pub scrubbed : List ℕ → List ℕ → ℕ → Outcome (List ℕ)
 scrubbed sheet s room =
     andThen (sheetOf sheet) (λ sh. andThen (reading s) (λ r. roomFor room (written (kept sh (meant s r)))))
 
--- the answer: the length of the pack that was written, or the refusal and its place
-abbrev pub scrubAnswer : List ℕ → List ℕ → ℕ → Answer
-scrubAnswer sheet s room = answered length (scrubbed sheet s room)
-
 -- the buffer afterwards: the pack and 0 to the end; after a refusal what it held before
 unfoldable pub leaves : List ℕ → Outcome (List ℕ) → List ℕ
 leaves before (fine b) = b ++ replicate (length before - length b) 0

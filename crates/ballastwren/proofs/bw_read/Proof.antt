@@ -1,14 +1,11 @@
 -- `ballastwren::bw_read` meets its contract: the layer below delivers, and its answer is told.
-use mathlib.Core.Path.{ap, _∙_}
-use Rattle.ballastwren.specs.Told.{toldOf}
+use Rattle.refusals.proofs.One.{lends-told}
 use borrow.Author.Needs.{needs}
 use Rattle.ballastwren.proofs.bw_read.Statement.{statement}
 use Rattle.ballastwren.proofs.bw_read.Tie as tie
 
 returns : tie.Need-returns
-returns c =
-    let d = c .before .before .before .rows .ensures in
-    record { answers = c .told-answer .ensures ∙ ap toldOf (d .told); run = d .run }
+returns c = lends-told (c .before .before .before .rows .ensures) (c .told-answer .ensures)
 
 pub bw-read-spec : {M : Type 1} → statement M
 bw-read-spec = tie.close (tie.spec (λ c κs. search needs) (λ c κs. search needs) (λ c. search needs) returns)
