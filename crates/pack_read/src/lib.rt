@@ -394,9 +394,8 @@ fn open(pack: &[u8], tags: &mut [u32; 32], places: &mut [u32; 32], known: &mut [
     }
 }
 
-// The answer alone: how many items and inner payloads the pack has, or the refusal and its place. Nothing is stored of the items, so a check is
-// faster than a reading.
-pub fn check(pack: &[u8]) -> Answer
+// The answer for a pack that opens with Config: the tables of mappings are made for it alone.
+fn check_configured(pack: &[u8]) -> Answer
     ensures { λ r. ⌜ r ≡ checked (now (pack .entry)) ⌝ }
 {
     let mut tags = [0u32; 32];
@@ -410,6 +409,26 @@ pub fn check(pack: &[u8]) -> Answer
             mapped: _,
             next,
         } => count_items(pack, next),
+    }
+}
+
+// The answer alone: how many items and inner payloads the pack has, or the refusal and its place.
+pub fn check(pack: &[u8]) -> Answer
+    ensures { λ r. ⌜ r ≡ checked (now (pack .entry)) ⌝ }
+{
+    let start = pack::value_start(pack);
+    match start {
+        Answer::Refused { why, place } => Answer::Refused { why, place },
+        Answer::Done(at) => {
+            let first = pack_config::first_at(pack, at);
+            match first {
+                First::Other => count_items(pack, at),
+                First::Config {
+                    value_start: _,
+                    value_len: _,
+                } => check_configured(pack),
+            }
+        }
     }
 }
 
