@@ -17,7 +17,7 @@ told() {
 }
 
 # stated NAME FILE: whether FILE states a theorem or a definition NAME.
-stated() { grep -qE "^ *(abbrev |unfoldable )?(pub )?(record |data )?$1 [:(]" "$2" 2>/dev/null; }
+stated() { grep -qE "^ *(abbrev |unfoldable )?(pub )?(record |data )?$1 [:({]" "$2" 2>/dev/null; }
 
 paths() {
     local page path

@@ -1,6 +1,7 @@
 #!/usr/bin/env bash
 # Finds specs and proofs that nothing needs: every file of specs/ and proofs/ is cited, over any number of steps, by the contracts of src/, by a
-# function's proof, by the page of promises or by docs/GUARANTEES.md; and every law that a file gives to others is used or on a page.
+# function's proof, by the page of promises or by docs/GUARANTEES.md; and every law that a file gives to others is used or on a page. (A Worked.antt
+# holds examples, each of which is there for itself.)
 # Ends with 'N passed, M failed'.
 set -uo pipefail
 cd "$(dirname "$0")/.." || exit 2
@@ -54,7 +55,7 @@ laws() {
             n = split(line, w, " "); k = 1; public = 0
             while (w[k] ~ /^(abbrev|unfoldable|pub|record|data)$/) if (w[k++] == "pub") public = 1
             own = w[k]
-            if (public && own != "mod" && FILENAME ~ /\/proofs\/[A-Za-z0-9_]+\.antt$/ && FILENAME !~ /\/promises\//) given[own] = FILENAME
+            if (public && own != "mod" && FILENAME ~ /\/proofs\/[A-Za-z0-9_]+\.antt$/ && FILENAME !~ /\/promises\/|\/Worked\.antt$/) given[own] = FILENAME
         }
         {
             gsub(/[(){}.,;«»λ]/, " ", line); n = split(line, w, " ")

@@ -1,4 +1,4 @@
--- What C is told: document 01's numbers.
+-- Trusted. What C is told: document 01's numbers.
 use mathlib.Core.Bool.{cond}
 use Rattle.refusals.specs.Outcomes.{told}
 use Rattle.refusals.specs.declared.Answer.{Answer}

@@ -1,4 +1,4 @@
--- A list made of slots, one after the other: of each, what is made of its item.
+-- Trusted. A list made of slots, one after the other: of each, what is made of its item.
 use mathlib.Core.List.{List, [], _∷_, _++_}
 use Rattle.pack.specs.declared.Item.{Item}
 use Rattle.pack.specs.declared.Slot.{Slot}

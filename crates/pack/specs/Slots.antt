@@ -1,4 +1,4 @@
--- How the struct `Reading` shows a reading: its mappings as two arrays, and its items as slots.
+-- Trusted. How the struct `Reading` shows a reading: its mappings as two arrays, and its items as slots.
 use mathlib.Core.List.{List, [], _∷_, _++_, map}
 use mathlib.Core.Bool.{false}
 use Prim.Native.Nat.{ℕ, _-_}

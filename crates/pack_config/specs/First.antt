@@ -1,4 +1,4 @@
--- What the code looks for first. No rule of document 01 is stated here.
+-- Inner. What the code looks for first.
 use mathlib.Core.List.{List}
 use mathlib.Core.Bool.{cond}
 use Prim.Native.Nat.{ℕ}

@@ -1,4 +1,4 @@
--- The tables in which the code keeps the mappings that it has read: their tags, where their labels stand, and an index of the tags of one byte.
+-- Inner. The tables in which the code keeps the mappings that it has read: their tags, where their labels stand, and an index of the tags of one byte.
 use mathlib.Core.Path.{_≡_}
 use mathlib.Core.List.{List, map}
 use mathlib.Core.Bool.{false}

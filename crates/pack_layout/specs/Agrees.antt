@@ -1,4 +1,4 @@
--- What it is for reading and making to agree: on a pack that is read, and on a description that is laid out.
+-- Trusted. What it is for reading and making to agree: on a pack that is read, and on a description that is laid out.
 use mathlib.Core.Path.{_≡_}
 use mathlib.Core.List.{List}
 use Prim.Native.Nat.{ℕ}

@@ -1,4 +1,4 @@
--- A pack as it is made: a description, and the bytes that it is laid out in. Defined by writing alone, so that the reader's definition can be held
+-- Trusted. A pack as it is made: a description, and the bytes that it is laid out in. Defined by writing alone, so that the reader's definition can be held
 -- against it.
 use mathlib.Core.List.{List, [], _∷_, _++_, map}
 use mathlib.Core.Bool.{Bool, true, false, cond}

@@ -1,4 +1,4 @@
--- The descriptions that a pack may have: every number fits, nothing is out of place, and the caps hold.
+-- Trusted. The descriptions that a pack may have: every number fits, nothing is out of place, and the caps hold.
 use mathlib.Core.Path.{_≡_}
 use mathlib.Core.List.{List, [], _∷_, map}
 use mathlib.Core.Bool.{false}

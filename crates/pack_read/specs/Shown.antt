@@ -1,4 +1,4 @@
--- What is read of a pack into lent arrays: the outline of the reading, and what the arrays hold.
+-- Inner. What is read of a pack into lent arrays: the outline of the reading, and what the arrays hold.
 use mathlib.Core.Path.{_≡_}
 use mathlib.Core.List.{List}
 use Prim.Native.Nat.{ℕ}

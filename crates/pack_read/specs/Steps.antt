@@ -1,4 +1,4 @@
--- What the steps of a reading and of a check make. No rule of document 01 is stated here.
+-- Inner. What the steps of a reading and of a check make.
 use mathlib.Core.Path.{_≡_}
 use mathlib.Core.List.{List, map}
 use mathlib.Core.Bool.{Bool}

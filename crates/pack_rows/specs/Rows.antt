@@ -1,4 +1,4 @@
--- The reading of a pack as rows of eight numbers, which is how C gets it (house).
+-- Trusted. The reading of a pack as rows of eight numbers, which is how C gets it (house).
 use mathlib.Core.List.{List, [], _∷_, _++_}
 use mathlib.Core.Bool.{Bool, cond}
 use Prim.Native.Nat.{ℕ, _+_}

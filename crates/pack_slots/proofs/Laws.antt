@@ -6,7 +6,7 @@ use native.Mathlib.Omega.{arith}
 use lib.ListN.{length, getD, set, replicate}
 use Rattle.runs.specs.Over.{over}
 use Rattle.runs.specs.Cells.{cellsFrom}
-use Rattle.runs.proofs.Cells.{Local, length-cells, cell-at, cells-put}
+use Rattle.runs.proofs.Cells.{Local, local-first, length-cells, cell-at, cells-put}
 use Rattle.pack.specs.Fixed.{itemCap}
 use Rattle.pack.specs.Slots.{slot, blank}
 use Rattle.pack.specs.declared.Name.{Name}
@@ -30,9 +30,7 @@ slot-in s i d h = cell-at slotAt 8 itemCap s i d h
 near : Local slotAt 8
 unfolding slotItem slotName
 near s t a b h =
-    let z : getD s a 0 ≡ getD t b 0 =
-    ap (λ (i : ℕ). getD s i 0) (let e : a ≡ a + 0 = omega arith in e) ∙ h 0 (omega arith) ∙ ap (λ (i : ℕ). getD t i 0) (let e : b + 0 ≡ b = omega arith in e) in
-    rw (z, h 1 (omega arith), h 2 (omega arith), h 3 (omega arith), h 4 (omega arith), h 5 (omega arith), h 6 (omega arith), h 7 (omega arith)) refl
+    rw (local-first s t a b h (omega arith), h 1 (omega arith), h 2 (omega arith), h 3 (omega arith), h 4 (omega arith), h 5 (omega arith), h 6 (omega arith), h 7 (omega arith)) refl
 
 name-back : (n : Name) (s : List ℕ) → getD s 2 0 ≡ nameForm n → getD s 3 0 ≡ nameNumber n → slotName s 0 ≡ n
 unfolding slotName

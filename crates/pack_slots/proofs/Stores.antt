@@ -5,21 +5,10 @@ use Prim.Native.Nat.{ℕ, suc, _+_, _≤_}
 use native.Mathlib.Omega.{arith}
 use lib.ListN.{length, set}
 use Rattle.runs.specs.Over.{Wrote}
-use Rattle.runs.proofs.Over.{stores-over}
+use Rattle.runs.proofs.Over.{stores-at}
 
 module _ (xs : List ℕ) (at a b c d e f g h : ℕ) where
   pub wrote-eight : at + 8 ≤ length xs
       → Wrote xs at (a ∷ b ∷ c ∷ d ∷ e ∷ f ∷ g ∷ h ∷ []) (at + 8)
       (set (set (set (set (set (set (set (set xs at a) (at + 1) b) (at + 2) c) (at + 3) d) (at + 4) e) (at + 5) f) (at + 6) g) (at + 7) h)
-  wrote-eight room =
-      let one : at + 1 ≡ suc at = omega arith in
-      let two : at + 2 ≡ suc (suc at) = omega arith in
-      let three : at + 3 ≡ suc (suc (suc at)) = omega arith in
-      let four : at + 4 ≡ suc (suc (suc (suc at))) = omega arith in
-      let five : at + 5 ≡ suc (suc (suc (suc (suc at)))) = omega arith in
-      let six : at + 6 ≡ suc (suc (suc (suc (suc (suc at))))) = omega arith in
-      let seven : at + 7 ≡ suc (suc (suc (suc (suc (suc (suc at)))))) = omega arith in
-      record {
-        next = refl;
-        buffer = rw (one, two, three, four, five, six, seven) (stores-over xs at (a ∷ b ∷ c ∷ d ∷ e ∷ f ∷ g ∷ h ∷ []) room);
-      }
+  wrote-eight room = record { next = refl; buffer = stores-at xs at a (b ∷ c ∷ d ∷ e ∷ f ∷ g ∷ h ∷ []) room }

@@ -1,4 +1,4 @@
--- The slots of a reading as numbers, eight to a slot. No rule of document 01 is stated here.
+-- Inner. The slots of a reading as numbers, eight to a slot.
 use mathlib.Core.List.{List, [], _∷_}
 use mathlib.Core.Bool.{cond}
 use Prim.Native.Nat.{ℕ, _+_, _<_, _%_}

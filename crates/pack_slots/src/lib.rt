@@ -1,7 +1,7 @@
 // The slots of a reading as numbers in a lent array, eight to a slot. An array of numbers is lent; one of structs would be copied wherever it goes.
 ghost use mathlib.Core.Path.{_≡_};
 ghost use Prim.Native.Nat.{_+_, _*_, _<_, _≤_};
-ghost use lib.ListN.{length, getD, set};
+ghost use lib.ListN.{length, set};
 ghost use Rattle.runs.specs.Over.{Wrote};
 ghost use Rattle.pack.specs.Fixed.{itemCap};
 ghost use Rattle.pack.specs.Slots.{slot};

@@ -1,4 +1,4 @@
--- The fields of a line as they are written one after the other. No rule of document 01 is stated here.
+-- Inner. The fields of a line as they are written one after the other.
 use mathlib.Core.Path.{_≡_}
 use mathlib.Core.List.{List, [], _∷_, _++_}
 use Prim.Native.Nat.{ℕ, _+_}

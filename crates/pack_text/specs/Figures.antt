@@ -1,4 +1,4 @@
--- Numbers and bytes as text, in ASCII.
+-- Trusted. Numbers and bytes as text, in ASCII.
 use mathlib.Core.List.{List, [], _∷_, map}
 use mathlib.Core.Bool.{cond}
 use Prim.Native.Nat.{ℕ, zero, suc, _+_, _/_, _%_, _^_}

@@ -1,4 +1,4 @@
--- The lines of a reading's slots, as the loop over them goes, and what it asks of them.
+-- Inner. The lines of a reading's slots, as the loop over them goes, and what it asks of them.
 use mathlib.Core.List.{List}
 use Prim.Native.Nat.{ℕ, _+_, _<_, _≤_}
 use lib.ListN.{length, getD}

@@ -1,4 +1,4 @@
--- The text of a reading, in ASCII: a line for the pack and one for each item and inner payload, or one line for a refusal.
+-- Trusted. The text of a reading, in ASCII: a line for the pack and one for each item and inner payload, or one line for a refusal.
 use mathlib.Core.List.{List, [], _∷_, _++_}
 use mathlib.Core.Bool.{Bool, cond}
 use Prim.Native.Nat.{ℕ}

@@ -1,4 +1,4 @@
--- What the loops of the reader and the writer go by: the pieces of a kind as they walk them, the number of a value, and a list that has room.
+-- Inner. What the loops of the reader and the writer go by: the pieces of a kind as they walk them, the number of a value, and a list that has room.
 use mathlib.Core.Path.{_≡_}
 use mathlib.Core.List.{List, [], _∷_}
 use Prim.Native.Nat.{ℕ, _<_, _≤_}

@@ -1,4 +1,4 @@
--- The reading of a value whose records are those of a shape.
+-- Inner. The reading of a value whose records are those of a shape.
 use mathlib.Core.List.{List}
 use Prim.Native.Nat.{ℕ, suc, _*_}
 use lib.ListN.{length}

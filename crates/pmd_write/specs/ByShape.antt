@@ -1,4 +1,4 @@
--- The bits of numbers as records of a shape, and how many they are.
+-- Inner. The bits of numbers as records of a shape, and how many they are.
 use mathlib.Core.List.{List}
 use mathlib.Core.Bool.{cond}
 use Prim.Native.Nat.{ℕ}

@@ -1,4 +1,4 @@
--- The bench examples of document 01 that are marked P, as one table. K is the pack key.
+-- Trusted. The bench examples of document 01 that are marked P, as one table. K is the pack key.
 use mathlib.Core.Path.{_≡_}
 use mathlib.Core.List.{List, [], _∷_, _++_}
 use Prim.Native.Nat.{ℕ}

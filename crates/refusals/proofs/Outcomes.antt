@@ -61,10 +61,6 @@ unfolding answered
 refused-of f (fine x) e = absurd-eq (cc)
 refused-of f (refused why p) e = cc
 
--- what a result of an answer that is known gives
-pub fine-of : {X : Type 0} (f : X → ℕ) (o : Outcome X) {n : ℕ} (P : Type 0) → A.Done n ≡ answered f o → ((x : X) → o ≡ fine x → n ≡ f x → P) → P
-fine-of f o P e k = let d = done-of f o e in k (d .0) (d .1) (d .2)
-
 -- a number that is its own count
 pub number-of : (o : Outcome ℕ) {n : ℕ} → A.Done n ≡ answered (λ (m : ℕ). m) o → o ≡ fine n
 number-of o e = let d = done-of (λ (m : ℕ). m) o e in d .1 ∙ ap fine (sym (d .2))

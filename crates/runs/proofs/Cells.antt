@@ -111,18 +111,3 @@ module _ {A : Type 0} (read : List ℕ → ℕ → A) (w : ℕ) where
         ∙ sym (ap (λ (m : ℕ). getD (set (cells read w k s) n (read ys 0)) m d) p ∙ getD-set-same (cells read w k s) n (read ys 0) d (omega arith)))
         (λ q. let p = eqb-false i n q in
         elsewhere i d (omega arith) p ∙ sym (getD-set-other (cells read w k s) n i (read ys 0) d p)))
-
--- THINGS KEPT AS NUMBERS
-
--- how a thing is kept in a cell of w numbers: what is read of the numbers of a thing that obeys the rule is the thing
-pub record Coded {A : Type 0} (read : List ℕ → ℕ → A) (numbers : A → List ℕ) (Rule : A → Type 0) (w : ℕ) : Type 0 where
-  pub near : Local read w
-  pub wide : (x : A) → length (numbers x) ≡ w
-  pub back : (x : A) → Rule x → read (numbers x) 0 ≡ x
-
--- a store of a thing's numbers puts it into its cell, and no other changes
-pub cells-stored : {A : Type 0} {read : List ℕ → ℕ → A} {numbers : A → List ℕ} {Rule : A → Type 0} {w : ℕ} → Coded read numbers Rule w
-    → (k : ℕ) (s : List ℕ) → w * k ≤ length s → (n : ℕ) → n < k → (x : A) → Rule x → {r : List ℕ} → r ≡ over s (w * n) (numbers x)
-    → cells read w k r ≡ set (cells read w k s) n x
-cells-stored {read} {numbers} {w} c k s long n h x rule e =
-    ap (cells read w k) e ∙ cells-put read w (c .near) k s long n h (numbers x) (c .wide x) x ∙ ap (set (cells read w k s) n) (c .back x rule)

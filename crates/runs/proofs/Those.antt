@@ -34,17 +34,6 @@ module _ {A : Type 0} (P : A → Type 0) where
   each-at (x ∷ xs) zero d h below = h .0
   each-at (x ∷ xs) (suc i) d h below = each-at xs i d (h .1) (omega arith)
 
-  -- of the first so many, and of all but those
-  pub each-take : (n : ℕ) (xs : List A) → Each P xs → Each P (take n xs)
-  each-take zero xs h = search
-  each-take (suc n) [] h = search
-  each-take (suc n) (x ∷ xs) h = (h .0, each-take n xs (h .1))
-
-  pub each-drop : (n : ℕ) (xs : List A) → Each P xs → Each P (drop n xs)
-  each-drop zero xs h = h
-  each-drop (suc n) [] h = search
-  each-drop (suc n) (x ∷ xs) h = each-drop n xs (h .1)
-
   -- of one element again and again
   pub each-same : (n : ℕ) (d : A) → P d → Each P (replicate n d)
   each-same zero d h = search

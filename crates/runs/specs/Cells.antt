@@ -1,4 +1,4 @@
--- An array of numbers as cells of so many numbers each.
+-- Inner. An array of numbers as cells of so many numbers each.
 use mathlib.Core.List.{List, [], _∷_}
 use Prim.Native.Nat.{ℕ, zero, suc, _+_}
 

@@ -1,4 +1,4 @@
--- A number as a run of digits in a base, most significant first. Bits are base 2, tag groups base 128, bytes base 256.
+-- Trusted. A number as a run of digits in a base, most significant first. Bits are base 2, tag groups base 128, bytes base 256.
 use mathlib.Core.List.{List, [], _∷_}
 use Prim.Native.Nat.{ℕ, zero, suc, _+_, _*_, _/_, _%_, _^_, _<_}
 use lib.ListN.{getD}

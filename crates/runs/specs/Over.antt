@@ -1,4 +1,4 @@
--- A lent buffer after a run of bytes was written into it.
+-- Trusted. A lent buffer after a run of bytes was written into it.
 use mathlib.Core.Path.{_≡_}
 use mathlib.Core.List.{List, _++_}
 use Prim.Native.Nat.{ℕ, _+_}

@@ -1,4 +1,4 @@
--- Whether two lists of bytes are the same, byte for byte, and whether a list has a number or a list among its elements.
+-- Trusted. Whether two lists of bytes are the same, byte for byte, and whether a list has a number or a list among its elements.
 use mathlib.Core.List.{List, [], _∷_}
 use mathlib.Core.Bool.{Bool, true, false, cond}
 use Prim.Native.Nat.{ℕ}

@@ -1,4 +1,4 @@
--- The elements of a list that pass a test, and a rule that holds of all of them.
+-- Trusted. The elements of a list that pass a test, and a rule that holds of all of them.
 use mathlib.Core.List.{List, [], _∷_}
 use mathlib.Core.Bool.{Bool, cond}
 

@@ -10,6 +10,7 @@ use Rattle.runs.proofs.Cases.{absurd-eq}
 use Rattle.refusals.specs.declared.Refusal.{Refusal}
 use Rattle.refusals.specs.declared.Refusal.the-variants as R
 use Rattle.refusals.specs.declared.Answer.the-variants as A
+use Rattle.refusals.proofs.Outcomes.{refused-of, done-of}
 use Rattle.refusals.specs.Outcomes.{Outcome, fine, refused, andThen, answered}
 use Rattle.numbers.specs.Lengths.{lengthBytes}
 use Rattle.pack.specs.declared.Slot.{Slot}
@@ -69,17 +70,6 @@ shown-answer : (o : Outcome Read) → (shown o) .answer ≡ answered (λ (r : Re
 unfolding shown answered
 shown-answer (fine r) = refl
 shown-answer (refused why place) = refl
-
--- the outcome of an answer that is known
-refused-of : {X : Type 0} (f : X → ℕ) (o : Outcome X) {why : Refusal} {p : ℕ} → A.Refused why p ≡ answered f o → o ≡ refused why p
-unfolding answered
-refused-of f (fine x) e = absurd-eq (cc)
-refused-of f (refused why p) e = cc
-
-done-of : {X : Type 0} (f : X → ℕ) (o : Outcome X) {n : ℕ} → A.Done n ≡ answered f o → (x : X) × (o ≡ fine x) × (n ≡ f x)
-unfolding answered
-done-of f (fine x) e = (x, refl, cc)
-done-of f (refused why p) e = absurd-eq (cc)
 
 -- what an outline tells of a pack
 module _ (sheet s before : List ℕ) (x : Asked) (good : Good sheet x) {shows : Outline} {held tags places : List ℕ} (o : Outlined s shows held tags places) where

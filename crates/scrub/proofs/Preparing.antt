@@ -4,7 +4,7 @@ use mathlib.Core.List.{List, [], _∷_, _++_, map}
 use mathlib.Core.Bool.{Bool, false}
 use Prim.Native.Nat.{ℕ, suc, _+_, _-_, _<_, _≤_}
 use native.Mathlib.Omega.{arith}
-use lib.ListN.{length, take, drop, getD, replicate, length-append, length-map}
+use lib.ListN.{length, take, getD, replicate, length-append, length-map}
 use Rattle.runs.specs.Digits.{Bytes}
 use Rattle.refusals.specs.Outcomes.{fine}
 use Rattle.pack.specs.declared.Slot.{Slot}

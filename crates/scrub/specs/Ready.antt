@@ -1,4 +1,4 @@
--- What the passes of a scrub hand on: a good sheet, an accepted pack, and what is ready before it writes.
+-- Inner. What the passes of a scrub hand on: a good sheet, an accepted pack, and what is ready before it writes.
 use mathlib.Core.Path.{_≡_}
 use mathlib.Core.List.{List}
 use mathlib.Core.Bool.{Bool, true, false}

@@ -1,5 +1,4 @@
--- What a scrub promises.
-use mathlib.Core.Path.{_≡_}
+-- Trusted. What a scrub promises.
 use mathlib.Core.List.{List}
 use Prim.Native.Nat.{ℕ}
 use lib.ListN.{length}

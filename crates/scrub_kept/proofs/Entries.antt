@@ -1,7 +1,7 @@
 -- The mappings that are written: each label gets a tag of its own that is no number name, and under these mappings the tag that a name is
 -- written with means that name.
 use mathlib.Core.Path.{_≡_, refl, sym, ap, subst, _∙_}
-use mathlib.Core.List.{List, [], _∷_, _++_, List·Memᴰ, List·Memᴰ·head, List·Memᴰ·tail, List·Memᴰ·not-nil, List·Nodup, Pairwise·nil, nodup-cons}
+use mathlib.Core.List.{List, [], _∷_, List·Memᴰ, List·Memᴰ·head, List·Memᴰ·tail, List·Memᴰ·not-nil, List·Nodup, Pairwise·nil, nodup-cons}
 use mathlib.Core.Logic.{∥∥₁-elim}
 use mathlib.Core.HLevel.{⊥-prop}
 use mathlib.Core.Bool.{true, false}
@@ -11,7 +11,7 @@ use lib.ListN.{length}
 use lib.Dec.{eqb}
 use borrow.Author.Tests.{eq-eqb, eqb-true}
 use Rattle.runs.specs.Same.{same, among, listed}
-use Rattle.runs.proofs.Cases.{split, absurd-eq}
+use Rattle.runs.proofs.Cases.{split}
 use Rattle.runs.proofs.Same.{same-true}
 use Rattle.pack.specs.Said.{label, number}
 use Rattle.pack_layout.specs.Layout.{Entry, entryFor}

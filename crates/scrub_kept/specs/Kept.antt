@@ -1,4 +1,4 @@
--- What a sheet keeps of what a pack says: payloads that it names, and Syncs with at least one such, holding only those.
+-- Trusted. What a sheet keeps of what a pack says: payloads that it names, and Syncs with at least one such, holding only those.
 use mathlib.Core.List.{List, [], _∷_}
 use mathlib.Core.Bool.{Bool, true, cond}
 use Prim.Native.Nat.{ℕ}

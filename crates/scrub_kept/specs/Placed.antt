@@ -1,4 +1,4 @@
--- The payloads of a pack, each with the two numbers of the Sync that it stands in. What a scrub keeps can be told by these alone.
+-- Trusted. The payloads of a pack, each with the two numbers of the Sync that it stands in. What a scrub keeps can be told by these alone.
 use mathlib.Core.List.{List, [], _∷_, map, flatten}
 use mathlib.Core.Bool.{Bool, true, false}
 use Prim.Native.Nat.{ℕ, _<_}

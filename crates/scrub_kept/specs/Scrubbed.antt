@@ -1,4 +1,4 @@
--- The scrub of a pack by a sheet into a lent buffer: SHEET, then the pack's refusals, then NOROOM.
+-- Trusted. The scrub of a pack by a sheet into a lent buffer: SHEET, then the pack's refusals, then NOROOM.
 use mathlib.Core.Path.{_≡_}
 use mathlib.Core.List.{List, _++_}
 use mathlib.Core.Bool.{true, cond, _&&_}
@@ -7,8 +7,7 @@ use lib.Dec.{leb}
 use lib.ListN.{length, replicate}
 use Rattle.runs.specs.Digits.{Bytes}
 use Rattle.refusals.specs.declared.Refusal.the-variants as R
-use Rattle.refusals.specs.declared.Answer.{Answer}
-use Rattle.refusals.specs.Outcomes.{Outcome, fine, refused, andThen, answered}
+use Rattle.refusals.specs.Outcomes.{Outcome, fine, refused, andThen}
 use Rattle.pack.specs.Fixed.{packCap}
 use Rattle.pack.specs.Said.{Said}
 use Rattle.pack.specs.Reading.{Read, reading}

@@ -1,4 +1,4 @@
--- The keep sheet (house): a header of counts and offsets, each 16 bits, most significant byte first; then labels of 16 bytes and tag numbers of
+-- Trusted. The keep sheet (house): a header of counts and offsets, each 16 bits, most significant byte first; then labels of 16 bytes and tag numbers of
 -- 32 bits, and nothing after.
 use mathlib.Core.List.{List, [], _∷_}
 use mathlib.Core.Bool.{Bool, true, cond, not, _&&_}

@@ -1,4 +1,4 @@
--- The pack that is written for what is kept: shortest lengths throughout, Config only where it is needed, always a CRC.
+-- Trusted. The pack that is written for what is kept: shortest lengths throughout, Config only where it is needed, always a CRC.
 use mathlib.Core.List.{List, [], _∷_, _++_, map}
 use mathlib.Core.Bool.{cond}
 use Prim.Native.Nat.{ℕ, zero, suc, _+_}

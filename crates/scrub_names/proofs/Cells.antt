@@ -6,8 +6,8 @@ use native.Mathlib.Omega.{arith}
 use lib.ListN.{length, getD, set, replicate}
 use Rattle.runs.specs.Over.{over}
 use Rattle.runs.specs.Cells.{cellsFrom}
-use Rattle.runs.proofs.Over.{stores-over}
-use Rattle.runs.proofs.Cells.{Local, length-cells, cell-at, cells-put}
+use Rattle.runs.proofs.Over.{stores-at}
+use Rattle.runs.proofs.Cells.{Local, local-first, length-cells, cell-at, cells-put}
 use Rattle.pack.specs.Fixed.{itemCap}
 use Rattle.scrub_names.specs.declared.Mark.{Mark}
 use Rattle.scrub_names.specs.declared.Mark.the-variants as M
@@ -29,9 +29,7 @@ marks-none = refl
 near : Local markAt 2
 unfolding markAt
 near s t a b h =
-    let z : getD s a 0 ≡ getD t b 0 =
-    ap (λ (i : ℕ). getD s i 0) (let e : a ≡ a + 0 = omega arith in e) ∙ h 0 (omega arith) ∙ ap (λ (i : ℕ). getD t i 0) (let e : b + 0 ≡ b = omega arith in e) in
-    rw (z, h 1 (omega arith)) refl
+    rw (local-first s t a b h (omega arith), h 1 (omega arith)) refl
 
 -- a store of a mark's numbers puts it into its cell, and no other changes
 pub marks-put : (s : List ℕ) → length s ≡ 128 → (n : ℕ) → n < 64 → {r : List ℕ} {m : Mark} → (ys : List ℕ) → length ys ≡ 2 → markAt ys 0 ≡ m → r ≡ over s (2 * n) ys
@@ -41,4 +39,4 @@ marks-put s long n h ys wide e w =
 
 -- two stores, one after the other
 pub stored-two : (s : List ℕ) (at a b : ℕ) → at + 2 ≤ length s → set (set s at a) (at + 1) b ≡ over s at (a ∷ b ∷ [])
-stored-two s at a b room = let one : at + 1 ≡ suc at = omega arith in rw one (stores-over s at (a ∷ b ∷ []) room)
+stored-two s at a b room = stores-at s at a (b ∷ []) room

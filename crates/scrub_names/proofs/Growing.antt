@@ -1,13 +1,15 @@
 -- A mark more at the end: what it adds to the numbers and to the labels.
 use mathlib.Core.Path.{_≡_, refl, ap, _∙_}
 use mathlib.Core.List.{List, [], _∷_, _++_, append-nil}
-use mathlib.Core.Bool.{true, false, cond, _||_}
+use mathlib.Core.Logic.{_⊎_, inl, inr}
+use mathlib.Core.Bool.{true, false, _||_}
 use Prim.Native.Nat.{ℕ, _+_, _≤_}
 use native.Mathlib.Omega.{arith}
 use lib.ListN.{length}
 use lib.Dec.{eqb}
 use Rattle.runs.specs.Same.{among}
 use Rattle.runs.proofs.Cases.{split}
+use Rattle.scrub_kept.proofs.Firsts.{Silent, Firsts, silent-last, named-last}
 use Rattle.scrub_names.specs.declared.Mark.{Mark}
 use Rattle.scrub_names.specs.declared.Mark.the-variants as M
 use Rattle.scrub_names.specs.Marks.{keptNumbers, keptLabels}
@@ -28,39 +30,26 @@ numbers-append (M.Label i ∷ ms) ns = numbers-append ms ns
 pub numbers-same : (ms : List Mark) (r : Mark) → keptNumbers (r ∷ []) ≡ [] → keptNumbers (ms ++ (r ∷ [])) ≡ keptNumbers ms
 numbers-same ms r e = numbers-append ms (r ∷ []) ∙ ap (λ (l : List ℕ). keptNumbers ms ++ l) e ∙ append-nil (keptNumbers ms)
 
--- a mark that is no label adds none
-pub labels-same : (seen : List ℕ) (ms : List Mark) (r : Mark) → ((s : List ℕ) → keptLabels s (r ∷ []) ≡ []) → keptLabels seen (ms ++ (r ∷ [])) ≡ keptLabels seen ms
-unfolding keptLabels
-labels-same seen [] r e = e seen
-labels-same seen (M.Gone ∷ ms) r e = labels-same seen ms r e
-labels-same seen (M.Number u ∷ ms) r e = labels-same seen ms r e
-labels-same seen (M.Label i ∷ ms) r e =
-    split (among i seen) (λ a. rw a (labels-same seen ms r e)) (λ a. rw a (ap (λ (l : List ℕ). i ∷ l) (labels-same (i ∷ seen) ms r e)))
-
-grow : (k : ℕ) (seen : List ℕ) (ms : List Mark)
-    → keptLabels seen (ms ++ (M.Label k ∷ [])) ≡ keptLabels seen ms ++ cond (among k seen || among k (keptLabels seen ms)) [] (k ∷ [])
+-- the kept labels are listed by first appearance
+labels-first : Firsts eqb among M.Label keptLabels
 unfolding keptLabels among
-grow k seen [] = split (among k seen) (λ e. rw e) (λ e. rw e)
-grow k seen (M.Gone ∷ ms) = grow k seen ms
-grow k seen (M.Number u ∷ ms) = grow k seen ms
-grow k seen (M.Label i ∷ ms) =
-    split (among i seen)
-    (λ e. rw e (grow k seen ms))
-    (λ e. let g = grow k (i ∷ seen) ms in
-    split (eqb i k)
-    (λ f. split (among k seen)
-    (λ a. rw (e, f, a) (ap (λ (x : List ℕ). i ∷ x) (simp f at g)))
-    (λ a. rw (e, f, a) (ap (λ (x : List ℕ). i ∷ x) (simp f at g))))
-    (λ f. rw (e, f) (ap (λ (x : List ℕ). i ∷ x) (simp f at g))))
+labels-first = record { has-none = λ x. refl; has-more = λ x y ys. refl; ends = λ seen. refl; first = λ seen x r. refl; each = told }
+  where
+    told : (m : Mark) → ((k : ℕ) × (m ≡ M.Label k)) ⊎ Silent keptLabels m
+    told M.Gone = inr (λ seen r. refl)
+    told (M.Number t) = inr (λ seen r. refl)
+    told (M.Label k) = inl (k, refl)
+
+-- a mark that is no label adds none
+pub labels-same : (ms : List Mark) (m : Mark) → Silent keptLabels m → keptLabels [] (ms ++ (m ∷ [])) ≡ keptLabels [] ms
+labels-same ms m none = silent-last labels-first m none ms
 
 -- a label that was seen, and a new one
 pub labels-seen : (ms : List Mark) (k : ℕ) → among k (keptLabels [] ms) ≡ true → keptLabels [] (ms ++ (M.Label k ∷ [])) ≡ keptLabels [] ms
-unfolding among
-labels-seen ms k h = let g = grow k [] ms in let j : keptLabels [] (ms ++ (M.Label k ∷ [])) ≡ keptLabels [] ms ++ [] = simp h at g in j ∙ append-nil (keptLabels [] ms)
+labels-seen ms k h = named-last labels-first k ms ∙ simp h
 
 pub labels-new : (ms : List Mark) (k : ℕ) → among k (keptLabels [] ms) ≡ false → keptLabels [] (ms ++ (M.Label k ∷ [])) ≡ keptLabels [] ms ++ (k ∷ [])
-unfolding among
-labels-new ms k h = let g = grow k [] ms in simp h at g
+labels-new ms k h = named-last labels-first k ms ∙ simp h
 
 -- at most as many numbers and labels as marks
 pub marks-few : (seen : List ℕ) (ms : List Mark) → length (keptNumbers ms) + length (keptLabels seen ms) ≤ length ms

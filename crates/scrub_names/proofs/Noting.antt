@@ -17,6 +17,7 @@ use Rattle.pack.specs.declared.Slot.{Slot}
 use Rattle.scrub_names.specs.declared.Mark.{Mark}
 use Rattle.scrub_names.specs.declared.Mark.the-variants as M
 use Rattle.scrub_names.specs.Marks.{keptNumbers, keptLabels, Noted}
+use Rattle.runs.proofs.Bools.{or-false, or-true}
 use Rattle.pack.proofs.Padded.{set-padded}
 use Rattle.scrub_names.proofs.Padded.{map-next}
 use Rattle.scrub_names.proofs.Growing.{among-last, numbers-append, numbers-same, labels-same, labels-seen, labels-new, marks-few}
@@ -24,14 +25,6 @@ use Rattle.scrub_names.proofs.Growing.{among-last, numbers-append, numb
 outside : (t k : ℕ) → (t < 64) ⊎ (128 ≤ t) → k < 64 → t ≡ 64 + k → ⊥
 outside t k (inl h) g e = omega arith
 outside t k (inr h) g e = omega arith
-
-or-false : (a b : Bool) → b ≡ false → a ≡ a || b
-or-false true b e = refl
-or-false false b e = sym e
-
-or-true : (a b : Bool) → b ≡ true → a || b ≡ true
-or-true true b e = refl
-or-true false b e = e
 
 -- the arrays after the marks ms
 pub record Notes (ms : List Mark) (marks : List Mark) (order : List ℕ) (labels : ℕ) (taken seen : List Bool) : Type 0 where
@@ -73,7 +66,7 @@ module _ {ms : List Mark} {marks : List Mark} {order : List ℕ} {labels : ℕ} 
 
   pub note-gone : r ≡ M.Gone → Notes (ms ++ (r ∷ [])) (set marks at r) order labels taken seen
   unfolding keptLabels keptNumbers
-  note-gone e = same-both (labels-same [] ms r (λ s. rw e)) (rw e)
+  note-gone e = same-both (labels-same ms r (λ s q. rw e)) (rw e)
 
   number-adds : (t : ℕ) → r ≡ M.Number t → (k : ℕ) → among k (keptNumbers (ms ++ (r ∷ []))) ≡ among k (keptNumbers ms) || eqb t k
   unfolding keptNumbers
@@ -82,14 +75,14 @@ module _ {ms : List Mark} {marks : List Mark} {order : List ℕ} {labels : ℕ} 
 
   number-labels : (t : ℕ) → r ≡ M.Number t → keptLabels [] (ms ++ (r ∷ [])) ≡ keptLabels [] ms
   unfolding keptLabels
-  number-labels t e = labels-same [] ms r (λ s. rw e)
+  number-labels t e = labels-same ms r (λ s q. rw e)
 
   -- a number that no label can get
   pub note-outside : (t : ℕ) → r ≡ M.Number t → (t < 64) ⊎ (128 ≤ t) → Notes (ms ++ (r ∷ [])) (set marks at r) order labels taken seen
   note-outside t e o =
       let apart : (k : ℕ) → k < 64 → eqb t (64 + k) ≡ false = λ k h. ne-eqb t (64 + k) (outside t k o h) in
       same-labels taken (number-labels t e) (n .sizes .0)
-      (λ k h. n .noted .taken k h ∙ or-false (among (64 + k) (keptNumbers ms)) (eqb t (64 + k)) (apart k h) ∙ sym (number-adds t e (64 + k)))
+      (λ k h. n .noted .taken k h ∙ sym (or-false (among (64 + k) (keptNumbers ms)) (eqb t (64 + k)) (apart k h)) ∙ sym (number-adds t e (64 + k)))
 
   -- a number from 64 to 127
   pub note-inside : (t : ℕ) → r ≡ M.Number t → 64 ≤ t → t < 128 → Notes (ms ++ (r ∷ [])) (set marks at r) order labels (set taken (t - 64) true) seen
@@ -103,7 +96,7 @@ module _ {ms : List Mark} {marks : List Mark} {order : List ℕ} {labels : ℕ} 
       ∙ sym (number-adds t e (64 + k) ∙ or-true (among (64 + k) (keptNumbers ms)) (eqb t (64 + k)) q))
       (λ q. let p = eqb-false t (64 + k) q in
       getD-set-other taken (t - 64) k true false (λ j. p (omega arith)) ∙ n .noted .taken k h
-      ∙ or-false (among (64 + k) (keptNumbers ms)) (eqb t (64 + k)) q ∙ sym (number-adds t e (64 + k))))
+      ∙ sym (or-false (among (64 + k) (keptNumbers ms)) (eqb t (64 + k)) q) ∙ sym (number-adds t e (64 + k))))
 
   -- a label that was seen
   pub note-seen : (k : ℕ) → r ≡ M.Label k → k < 32 → getD seen k false ≡ true → Notes (ms ++ (r ∷ [])) (set marks at r) order labels taken seen
@@ -134,7 +127,7 @@ module _ {ms : List Mark} {marks : List Mark} {order : List ℕ} {labels : ℕ} 
             (λ q. let p : k ≡ j = eqb-true k j q in
             ap (λ (m : ℕ). getD (set seen k true) m false) (sym p) ∙ getD-set-same seen k true false (omega arith)
             ∙ sym (ap (among j) a ∙ among-last j k old ∙ or-true (among j old) (eqb k j) q))
-            (λ q. getD-set-other seen k j true false (λ p. eqb-false k j q (sym p)) ∙ n .known j g ∙ or-false (among j old) (eqb k j) q
+            (λ q. getD-set-other seen k j true false (λ p. eqb-false k j q (sym p)) ∙ n .known j g ∙ sym (or-false (among j old) (eqb k j) q)
             ∙ sym (ap (among j) a ∙ among-last j k old));
         sizes = (n .sizes .0, length-set seen k true ∙ n .sizes .1);
       }

@@ -1,4 +1,4 @@
--- The new tags of labels: each the smallest number from 64 up that is not taken.
+-- Inner. The new tags of labels: each the smallest number from 64 up that is not taken.
 use mathlib.Core.List.{List, [], _∷_}
 use mathlib.Core.Bool.{Bool, false, cond}
 use Prim.Native.Nat.{ℕ, zero, suc, _+_, _-_}

@@ -1,4 +1,4 @@
--- The slots of a reading, marked: what stays, and under which name.
+-- Inner. The slots of a reading, marked: what stays, and under which name.
 use mathlib.Core.Path.{_≡_}
 use mathlib.Core.List.{List, [], _∷_, map}
 use mathlib.Core.Bool.{Bool, false, cond}

@@ -1,4 +1,4 @@
--- The writes for the slots of a reading, worked out from the last slot to the first, so that a Sync knows the size of what is inside.
+-- Inner. The writes for the slots of a reading, worked out from the last slot to the first, so that a Sync knows the size of what is inside.
 use mathlib.Core.Path.{_≡_}
 use mathlib.Core.List.{List, [], _∷_}
 use mathlib.Core.Bool.{cond}

@@ -1,4 +1,4 @@
--- The keep sheet as the code holds it: its bytes stay lent, and only its two counts are kept.
+-- Inner. The keep sheet as the code holds it: its bytes stay lent, and only its two counts are kept.
 use mathlib.Core.Path.{_≡_}
 use mathlib.Core.List.{List, []}
 use mathlib.Core.Bool.{Bool, false, cond, _&&_}

@@ -6,8 +6,8 @@ use native.Mathlib.Omega.{arith}
 use lib.ListN.{length, getD, set, replicate}
 use Rattle.runs.specs.Over.{over}
 use Rattle.runs.specs.Cells.{cellsFrom}
-use Rattle.runs.proofs.Over.{stores-over}
-use Rattle.runs.proofs.Cells.{Local, length-cells, cell-at, cells-put}
+use Rattle.runs.proofs.Over.{stores-at}
+use Rattle.runs.proofs.Cells.{Local, local-first, length-cells, cell-at, cells-put}
 use Rattle.scrub_write.specs.declared.Op.{Op}
 use Rattle.scrub_write.specs.declared.Op.the-variants.{Skip, Open}
 use Rattle.scrub_write.specs.Ops.{opAt, opsIn}
@@ -15,11 +15,7 @@ use Rattle.scrub_write.specs.Ops.{opAt, opsIn}
 -- four stores, one after the other
 pub stored-four : (xs : List ℕ) (at a b c d : ℕ) → at + 4 ≤ length xs
     → set (set (set (set xs at a) (at + 1) b) (at + 2) c) (at + 3) d ≡ over xs at (a ∷ b ∷ c ∷ d ∷ [])
-stored-four xs at a b c d h =
-    let one : at + 1 ≡ suc at = omega arith in
-    let two : at + 2 ≡ suc (suc at) = omega arith in
-    let three : at + 3 ≡ suc (suc (suc at)) = omega arith in
-    rw (one, two, three) (stores-over xs at (a ∷ b ∷ c ∷ d ∷ []) h)
+stored-four xs at a b c d h = stores-at xs at a (b ∷ c ∷ d ∷ []) h
 
 pub length-ops : (s : List ℕ) → length (opsIn s) ≡ 64
 length-ops s = length-cells opAt 4 64 s
@@ -31,9 +27,7 @@ op-in s i d h = cell-at opAt 4 64 s i d h
 near : Local opAt 4
 unfolding opAt
 near s t a b h =
-    let z : getD s a 0 ≡ getD t b 0 =
-    ap (λ (i : ℕ). getD s i 0) (let e : a ≡ a + 0 = omega arith in e) ∙ h 0 (omega arith) ∙ ap (λ (i : ℕ). getD t i 0) (let e : b + 0 ≡ b = omega arith in e) in
-    rw (z, h 1 (omega arith), h 2 (omega arith), h 3 (omega arith)) refl
+    rw (local-first s t a b h (omega arith), h 1 (omega arith), h 2 (omega arith), h 3 (omega arith)) refl
 
 -- a store of a write's numbers puts it into its cell, and no other changes
 pub ops-put : (s : List ℕ) → length s ≡ 256 → (i : ℕ) → i < 64 → {r : List ℕ} {x : Op} → (ys : List ℕ) → length ys ≡ 4 → opAt ys 0 ≡ x → r ≡ over s (4 * i) ys

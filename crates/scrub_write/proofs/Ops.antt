@@ -65,11 +65,6 @@ module _ (s out : List ℕ) (at : ℕ) {x : Op} where
     pub op-gives : {r : ℕ} {z : List ℕ} → Wrote out at (opBytes s y) r z → Wrote out at (opBytes s x) r z
     op-gives w = rw e w
 
--- a Sync's head has nothing of the pack
-pub open-any : (s : List ℕ) (n o d : ℕ) → opBytes s (Open n o d) ≡ opBytes [] (Open n o d)
-unfolding opBytes
-open-any s n o d = refl
-
 -- the loop: what is left of the writes
 pub record Left (n : ℕ) (s : List ℕ) (all : List Op) (xs : List ℕ) (a : ℕ) (us : List ℕ) (i at : ℕ) : Type 0 where
   pub most : i ≤ n

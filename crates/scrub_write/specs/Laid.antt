@@ -1,4 +1,4 @@
--- Config and the frame of a pack, as they are written.
+-- Inner. Config and the frame of a pack, as they are written.
 use mathlib.Core.Path.{_≡_}
 use mathlib.Core.List.{List, [], _∷_, _++_}
 use mathlib.Core.Bool.{cond, _&&_}

@@ -1,4 +1,4 @@
--- The writes of a scrub, one after the other, and their bytes.
+-- Inner. The writes of a scrub, one after the other, and their bytes.
 use mathlib.Core.List.{List, [], _∷_, _++_}
 use mathlib.Core.Bool.{cond}
 use Prim.Native.Nat.{ℕ, _+_, _<_, _≤_, _^_, _%_}
