@@ -13,7 +13,7 @@ use Rattle.refusals.specs.declared.Answer.the-variants as A
 use Rattle.refusals.specs.Outcomes.{Outcome, fine, refused, andThen, answered}
 use Rattle.numbers.specs.Big.{bigAt}
 use Rattle.pack.specs.Config.{Mapping, tagsOf, configMaps}
-use Rattle.pack.specs.Items.{Body, itemsFrom}
+use Rattle.pack.specs.Items.{Body, itemsFrom, countOf}
 use Rattle.pack.specs.Reading.{Read, valueStart, Opening, openingAt, readFrom, reading, checked}
 use Rattle.pack.specs.Slots.{shown}
 use Rattle.refusals.proofs.Lent.{answers, refused-was, done-was}
@@ -24,8 +24,6 @@ use Rattle.pack_config.specs.Tables.{Filled, Knows, Empty, Tables, MapsRead}
 use Rattle.pack_config.specs.declared.First.the-variants as F
 use Rattle.pack_config.proofs.Tables.{tables-none, column-is, column-filled}
 use Rattle.pack_config.proofs.Openings.{opens-without, opens-with, maps-short}
-use Rattle.pack.specs.declared.Reading.{Reading}
-use Rattle.pack_read.proofs.One.{check-is-read}
 use Rattle.pack_read.specs.Shown.{outlineOf, Outlined}
 use Rattle.pack_read.specs.Steps.{counted, shownBody, BodyTold, openedOf, Opens}
 use Rattle.pack_read.specs.declared.Outline.{Outline}
@@ -86,12 +84,6 @@ unfolding andThen
 small s (fine at) e h = start-small s at e
 small s (refused why p) e h = absurd-eq (cc)
 
--- the answer of a reading is the count of its items
-body-answer : (offset mapped : ℕ) (tags places : List ℕ) (o : Outcome Body) → answered counted o ≡ shownBody offset mapped tags places o .answer
-unfolding answered shownBody shown
-body-answer offset mapped tags places (fine b) = refl
-body-answer offset mapped tags places (refused why p) = refl
-
 -- the reading, by the opening
 whole : (s : List ℕ) → reading s ≡ andThen (opening s) (readFrom s)
 unfolding reading
@@ -108,10 +100,6 @@ module _ (s : List ℕ) {r : Opened} {tags places known : List ℕ} (g : Opens (
   whole-refused : {why : Refusal} {p : ℕ} → r ≡ O.Refused why p → reading s ≡ refused why p
   whole-refused e = whole s ∙ then-refused (readFrom s) (told-refused (opening s) (sym e ∙ g .told))
 
-  pub checked-refused : {why : Refusal} {p : ℕ} {a : Answer} → r ≡ O.Refused why p → a ≡ A.Refused why p → a ≡ checked s
-  unfolding checked
-  checked-refused e q = answers _ (whole-refused e) q
-
   pub outlined-refused : {why : Refusal} {p : ℕ} {o : Outline} {slots : List ℕ} → r ≡ O.Refused why p → o ≡ outlineOf (shown (refused why p))
       → Outlined s o slots tags places
   unfolding shown
@@ -121,7 +109,7 @@ module _ (s : List ℕ) {r : Opened} {tags places known : List ℕ} (g : Opens (
     from : (P : Type 0) → ((x : Opening) → opening s ≡ fine x → Tables (x .mappings) tags places known → f ≡ x .offset → m ≡ length (x .mappings) → n ≡ x .next → P) → P
     from P k = told-from (opening s) P (sym e ∙ g .told) (λ x q a b d. k x q (g .tables x q) a b d)
 
-    pub opened-small : length s ≤ 32768
+    opened-small : length s ≤ 32768
     opened-small = from (length s ≤ 32768) (λ x q t a b d. small s (valueStart s) refl q)
 
     -- the first m places of the tables hold the mappings
@@ -151,8 +139,25 @@ module _ (s : List ℕ) {r : Opened} {tags places known : List ℕ} (g : Opens (
     pub outlined-from : {o : Outline} {slots : List ℕ} → BodyTold f m tags (itemsFrom (length s) s (take m tags) n 0) o slots → Outlined s o slots tags places
     outlined-from b = record { told = b places .0 ∙ ap outlineOf whole-from; whole = λ k h. b places .1 k h ∙ whole-from }
 
-    -- a count of the items that holds for any tags
-    pub checked-from : {a : Answer} → ((ts : List ℕ) → a ≡ answered counted (itemsFrom (length s) s ts n 0)) → a ≡ checked s
-    checked-from h =
-        h (take m tags) ∙ body-answer f m tags places (itemsFrom (length s) s (take m tags) n 0) ∙ ap (λ (x : Reading). x .answer) whole-from
-        ∙ sym (check-is-read s)
+-- THE ANSWER ALONE
+
+body-count : (x : Opening) (o : Outcome Body)
+    → answered counted o ≡ answered (λ (r : Read). countOf (r .body .parts)) (andThen o (λ b. fine (record { offset = x .offset; mappings = x .mappings; body = b })))
+unfolding answered andThen
+body-count x (fine b) = refl
+body-count x (refused why p) = refl
+
+module _ (s : List ℕ) where
+  pub checked-stops : {why : Refusal} {p : ℕ} → opening s ≡ refused why p → A.Refused why p ≡ checked s
+  unfolding checked
+  checked-stops e = answers _ (whole s ∙ then-refused (readFrom s) e) refl
+
+  -- a count of the items from where they start on, which holds for any tags
+  pub checked-next : {o : Opening} {n : ℕ} {a : Answer} → opening s ≡ fine o → n ≡ o .next
+      → ((ts : List ℕ) → a ≡ answered counted (itemsFrom (length s) s ts n 0)) → a ≡ checked s
+  unfolding checked readFrom
+  checked-next {o} e next h =
+      h (tagsOf (o .mappings))
+      ∙ ap (λ (k : ℕ). answered counted (itemsFrom (length s) s (tagsOf (o .mappings)) k 0)) next
+      ∙ body-count o (itemsFrom (length s) s (tagsOf (o .mappings)) (o .next) 0)
+      ∙ sym (ap (answered (λ (r : Read). countOf (r .body .parts))) (whole s ∙ then-fine (readFrom s) e))

@@ -27,6 +27,10 @@ use Rattle.pack_read.specs.declared.Opened.the-variants as O
 abbrev pub counted : Body → ℕ
 counted b = countOf (b .parts)
 
+-- where the items start
+abbrev pub nextOf : Opening → ℕ
+nextOf o = o .next
+
 -- the count of the payloads of an inside q, with the `used` before them; fuel, if it is enough, does not matter
 pub record InsideTold (q tags : List ℕ) (base used : ℕ) (r : Answer) : Type 0 where
   pub told : (k : ℕ) → length q ≤ k → r ≡ answered (λ (xs : List Payload). used + length xs) (innersFrom k q tags base 0 used)

@@ -5,10 +5,10 @@ ghost use Prim.Native.Nat.{ℕ, _+_, _≤_};
 ghost use lib.ListN.{length, take, replicate};
 ghost use Rattle.refusals.specs.Outcomes.{answered, Outcome, andThen};
 ghost use Rattle.pack.specs.Items.{crcGood, syncHead, itemsFrom};
-ghost use Rattle.pack.specs.Reading.{openingAt, checked, valueStart, reading};
+ghost use Rattle.pack.specs.Reading.{configOf, openingAt, checked, valueStart, reading};
 ghost use Rattle.pack.specs.Slots.{blank, shown};
 ghost use Rattle.pack_read.specs.Shown.{outlineOf, Outlined};
-ghost use Rattle.pack_read.specs.Steps.{counted, InsideTold, InsideRead, doneOf, BodyTold, Opens};
+ghost use Rattle.pack_read.specs.Steps.{counted, nextOf, InsideTold, InsideRead, doneOf, BodyTold, Opens};
 ghost use Rattle.pack.specs.Fixed.{mappingCap};
 ghost use Rattle.pack.specs.Payloads.{payload};
 ghost use Rattle.pack.specs.Meaning.{stretchIn, valueOf, labelAt};
@@ -394,25 +394,46 @@ fn open(pack: &[u8], tags: &mut [u32; 32], places: &mut [u32; 32], known: &mut [
     }
 }
 
-// The answer for a pack that opens with Config: the tables of mappings are made for it alone.
-fn check_configured(pack: &[u8]) -> Answer
-    ensures { λ r. ⌜ r ≡ checked (now (pack .entry)) ⌝ }
+// Where the items start after the Config at `at`. The tables of mappings are made for a pack that has one alone.
+fn after_config(s: &[u8], at: usize, value_start: usize, value_len: usize) -> Answer
+    requires { ⌜ («value_start» + «value_len» ≤ length (now s)) × (length (now s) ≤ 32768) ⌝ }
+    ensures { λ r. ⌜ r ≡ answered nextOf (configOf (now (s .entry)) at «value_start» «value_len») ⌝ }
 {
     let mut tags = [0u32; 32];
     let mut places = [0u32; 32];
     let mut known = [0u8; 128];
-    let opened = open(pack, &mut tags, &mut places, &mut known);
-    match opened {
-        Opened::Refused { why, place } => Answer::Refused { why, place },
-        Opened::From {
-            offset: _,
-            mapped: _,
-            next,
-        } => count_items(pack, next),
+    let maps = pack_config::config(
+        s,
+        at,
+        value_start,
+        value_len,
+        &mut tags,
+        &mut places,
+        &mut known,
+    );
+    match maps {
+        Answer::Refused { why, place } => Answer::Refused { why, place },
+        Answer::Done(_) => Answer::Done(value_start + value_len),
     }
 }
 
-// The answer alone: how many items and inner payloads the pack has, or the refusal and its place.
+// Where the items of a pack's value at `at` start.
+fn items_start(s: &[u8], at: usize) -> Answer
+    requires { ⌜ length (now s) ≤ 32768 ⌝ }
+    ensures { λ r. ⌜ r ≡ answered nextOf (openingAt (now (s .entry)) at) ⌝ }
+{
+    let first = pack_config::first_at(s, at);
+    match first {
+        First::Other => Answer::Done(at),
+        First::Config {
+            value_start,
+            value_len,
+        } => after_config(s, at, value_start, value_len),
+    }
+}
+
+// The answer alone: how many items and inner payloads the pack has, or the refusal and its place. Nothing is stored of the items, so a check is
+// faster than a reading.
 pub fn check(pack: &[u8]) -> Answer
     ensures { λ r. ⌜ r ≡ checked (now (pack .entry)) ⌝ }
 {
@@ -420,13 +441,10 @@ pub fn check(pack: &[u8]) -> Answer
     match start {
         Answer::Refused { why, place } => Answer::Refused { why, place },
         Answer::Done(at) => {
-            let first = pack_config::first_at(pack, at);
-            match first {
-                First::Other => count_items(pack, at),
-                First::Config {
-                    value_start: _,
-                    value_len: _,
-                } => check_configured(pack),
+            let items = items_start(pack, at);
+            match items {
+                Answer::Refused { why, place } => Answer::Refused { why, place },
+                Answer::Done(from) => count_items(pack, from),
             }
         }
     }
