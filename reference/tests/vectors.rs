@@ -1,27 +1,16 @@
-//! Runs the vectors of a third implementation: files of tab separated lines, in the folder named
-//! by BALLASTWREN_VECTORS or found near the crate. Without the folder the tests say so and pass.
+//! Runs the vectors of a third implementation: the files of tab separated lines in
+//! `tests/vectors` of the tree.
 
-use std::env;
 use std::fs;
-use std::path::PathBuf;
+use std::path::Path;
 
 use reference::{gain, listing, pmd_read, pmd_write, rows, scrub, Gain, Refusal, Sheet};
 
-fn folder() -> Option<PathBuf> {
-    let found = match env::var_os("BALLASTWREN_VECTORS") {
-        Some(path) => PathBuf::from(path),
-        None => PathBuf::from(env!("CARGO_MANIFEST_DIR")).join("../../shared/vectors"),
-    };
-    found.is_dir().then_some(found)
-}
-
 /// Runs one file of vectors.
 fn run(file: &str) {
-    let Some(folder) = folder() else {
-        println!("no folder of vectors: {file} skipped");
-        return;
-    };
-    let text = fs::read_to_string(folder.join(file)).expect("the file can be read");
+    let folder = Path::new(env!("CARGO_MANIFEST_DIR")).join("../tests/vectors");
+    let path = folder.join(file);
+    let text = fs::read_to_string(&path).unwrap_or_else(|why| panic!("{}: {why}", path.display()));
     let mut count = 0;
     for (index, line) in text.lines().enumerate() {
         if line.is_empty() || line.starts_with('#') {

@@ -1,30 +1,17 @@
-//! Runs the vectors of a third implementation through the archive: files of tab separated lines, in the folder named by
-//! BALLASTWREN_VECTORS or found beside the tree. Without the folder the tests say so and pass.
+//! Runs the vectors of a third implementation through the archive: the files of tab separated lines in `vectors/`.
 
-use std::env;
 use std::fs;
-use std::path::PathBuf;
+use std::path::Path;
 
 use ballastwren_tests::archive::{hex, Answer, Archive, Call, Outcome};
 use ballastwren_tests::packs::{dressed, Item, Label, Name, Payload, Said, KEY};
 use ballastwren_tests::random::Random;
 use ballastwren_tests::runs::say;
 
-fn folder() -> Option<PathBuf> {
-    let found = match env::var_os("BALLASTWREN_VECTORS") {
-        Some(path) => PathBuf::from(path),
-        None => PathBuf::from(env!("CARGO_MANIFEST_DIR")).join("../../shared/vectors"),
-    };
-    found.is_dir().then_some(found)
-}
-
 /// Runs one file of vectors.
 fn run(file: &str) {
-    let Some(folder) = folder() else {
-        say(&format!("no folder of vectors: {file} skipped"));
-        return;
-    };
-    let text = fs::read_to_string(folder.join(file)).expect("the file can be read");
+    let path = Path::new(env!("CARGO_MANIFEST_DIR")).join("vectors").join(file);
+    let text = fs::read_to_string(&path).unwrap_or_else(|trouble| panic!("{}: {trouble}", path.display()));
     let mut archive = Archive::start();
     let mut count = 0;
     for (index, line) in text.lines().enumerate() {
