@@ -61,9 +61,9 @@ specs_used() {
     sed -nE 's/^ *(ghost )?use Rattle·([a-z_]+)(\.specs|·specs\.specs)\.([A-Za-z0-9]+).*/crates\/\2\/specs\/\4.antt/p' "$1" | grep -v '/declared\.antt$'
 }
 
-# trusted_specs: the specification files that the page of promises and the contracts of the exports rest on.
+# trusted_specs: the specification files that the page of promises, the contracts of the exports and the demands rest on.
 trusted_specs() {
-    local file used todo=("$promises" crates/promises/proofs/Bench.antt crates/ballastwren/src/lib.rt)
+    local file used todo=("$promises" crates/promises/proofs/Bench.antt crates/ballastwren/src/lib.rt crates/demands/src/lib.rt)
     local -A seen=()
     while [[ ${#todo[@]} -gt 0 ]]; do
         file=${todo[0]}

@@ -2,17 +2,11 @@
 use Prim.Native.Nat.{ℕ}
 use mathlib.Core.Path.{_≡_}
 use mathlib.Core.List.{List}
-use lib.ListN.{length}
 use Rattle.runs.proofs.Cases.{one}
 use Rattle.refusals.proofs.One.{lends-one}
 use Rattle.pack.specs.Reading.{checked}
-use Rattle.pack_rows.specs.Rows.{rowsRead}
-use Rattle.scrub_kept.specs.Scrubbed.{scrubbed, leaves}
-use Rattle.refusals.specs.Lent.{within, lent, Lends}
-use Rattle.pmd.specs.Reading.{fieldsRead}
-use Rattle.pmd.specs.Writing.{fieldsWritten}
 use Rattle.pmd.specs.Gain.{levelOf}
-use Rattle.ballastwren.specs.Told.{toldOf, toldGainOf}
+use Rattle.ballastwren.specs.Told.{toldOf, toldGainOf, BwRead, BwScrub, BwPmdRead, BwPmdWrite}
 use Rattle.ballastwren.specs.declared.Told.{Told}
 use Rattle.ballastwren.specs.declared.ToldGain.{ToldGain}
 
@@ -20,20 +14,20 @@ pub bw-check-one : (pack : List ℕ) (a b : Told) → a ≡ toldOf (checked pack
 bw-check-one pack a b = one
 
 pub bw-read-one : (pack before us vs : List ℕ) (a b : Told)
-    → Lends toldOf lent (within (length before) (rowsRead pack)) before a us → Lends toldOf lent (within (length before) (rowsRead pack)) before b vs → (a ≡ b) × (us ≡ vs)
+    → BwRead pack before a us → BwRead pack before b vs → (a ≡ b) × (us ≡ vs)
 bw-read-one pack before us vs a b = lends-one
 
 pub bw-scrub-one : (sheet pack before us vs : List ℕ) (a b : Told)
-    → Lends toldOf leaves (scrubbed sheet pack (length before)) before a us → Lends toldOf leaves (scrubbed sheet pack (length before)) before b vs → (a ≡ b) × (us ≡ vs)
+    → BwScrub sheet pack before a us → BwScrub sheet pack before b vs → (a ≡ b) × (us ≡ vs)
 bw-scrub-one sheet pack before us vs a b = lends-one
 
 pub bw-pmd-read-one : (kind : ℕ) (value before us vs : List ℕ) (a b : Told)
-    → Lends toldOf lent (within (length before) (fieldsRead kind value)) before a us → Lends toldOf lent (within (length before) (fieldsRead kind value)) before b vs
+    → BwPmdRead kind value before a us → BwPmdRead kind value before b vs
     → (a ≡ b) × (us ≡ vs)
 bw-pmd-read-one kind value before us vs a b = lends-one
 
 pub bw-pmd-write-one : (kind : ℕ) (numbers before us vs : List ℕ) (a b : Told)
-    → Lends toldOf lent (within (length before) (fieldsWritten kind numbers)) before a us → Lends toldOf lent (within (length before) (fieldsWritten kind numbers)) before b vs
+    → BwPmdWrite kind numbers before a us → BwPmdWrite kind numbers before b vs
     → (a ≡ b) × (us ≡ vs)
 bw-pmd-write-one kind numbers before us vs a b = lends-one
 

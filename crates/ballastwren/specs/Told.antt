@@ -1,7 +1,15 @@
--- Trusted. What C is told: document 01's numbers.
+-- Trusted. What C is told, document 01's numbers, and what each export that is lent a run promises.
 use mathlib.Core.Bool.{cond}
+use mathlib.Core.List.{List}
+use Prim.Native.Nat.{ℕ}
+use lib.ListN.{length}
 use Rattle.refusals.specs.Outcomes.{told}
 use Rattle.refusals.specs.declared.Answer.{Answer}
+use Rattle.refusals.specs.Lent.{within, lent, Lends}
+use Rattle.pack_rows.specs.Rows.{rowsRead}
+use Rattle.scrub_kept.specs.Scrubbed.{scrubbed, leaves}
+use Rattle.pmd.specs.Reading.{fieldsRead}
+use Rattle.pmd.specs.Writing.{fieldsWritten}
 use Rattle.pmd.specs.Gain.{toldLevel}
 use Rattle.pmd.specs.declared.Level.{Level}
 use Rattle.ballastwren.specs.declared.Told.{Told}
@@ -14,3 +22,21 @@ toldOf a = record { number = (told a) .number; value = (told a) .value }
 -- a level as its three numbers: 1 where it is muted
 abbrev pub toldGainOf : Level → ToldGain
 toldGainOf l = record { number = (toldLevel l) .number; muted = cond ((toldLevel l) .muted) 1 0; «half_db» = (toldLevel l) .halfDecibels }
+
+-- The contracts: what the call was handed, what the lent run held before, what C is told, and what the run holds afterwards.
+
+-- bw_read: the rows of the pack, where the run has room for them
+abbrev pub BwRead : List ℕ → List ℕ → Told → List ℕ → Type 0
+BwRead pack before answer after = Lends toldOf lent (within (length before) (rowsRead pack)) before answer after
+
+-- bw_scrub: the pack that the sheet keeps, and 0 to the buffer's end
+abbrev pub BwScrub : List ℕ → List ℕ → List ℕ → Told → List ℕ → Type 0
+BwScrub sheet pack before answer after = Lends toldOf leaves (scrubbed sheet pack (length before)) before answer after
+
+-- bw_pmd_read: the fields of the value
+abbrev pub BwPmdRead : ℕ → List ℕ → List ℕ → Told → List ℕ → Type 0
+BwPmdRead kind value before answer after = Lends toldOf lent (within (length before) (fieldsRead kind value)) before answer after
+
+-- bw_pmd_write: the value of the fields
+abbrev pub BwPmdWrite : ℕ → List ℕ → List ℕ → Told → List ℕ → Type 0
+BwPmdWrite kind numbers before answer after = Lends toldOf lent (within (length before) (fieldsWritten kind numbers)) before answer after

@@ -1,15 +1,9 @@
 // What C calls: include/ballastwren.h says it for the C programmer. Slices pass as a pointer and a length, answers as a struct of numbers.
 // No function here asks anything of its caller, keeps a state or takes memory.
 ghost use mathlib.Core.Path.{_≡_};
-ghost use lib.ListN.{length};
 ghost use Rattle.pack.specs.Reading.{checked};
-ghost use Rattle.pack_rows.specs.Rows.{rowsRead};
-ghost use Rattle.scrub_kept.specs.Scrubbed.{scrubbed, leaves};
-ghost use Rattle.refusals.specs.Lent.{within, lent, Lends};
-ghost use Rattle.pmd.specs.Reading.{fieldsRead};
-ghost use Rattle.pmd.specs.Writing.{fieldsWritten};
 ghost use Rattle.pmd.specs.Gain.{levelOf};
-ghost use Rattle.ballastwren.specs.Told.{toldOf, toldGainOf};
+ghost use Rattle.ballastwren.specs.Told.{toldOf, toldGainOf, BwRead, BwScrub, BwPmdRead, BwPmdWrite};
 use pmd::Level;
 use refusals::Answer;
 
@@ -65,7 +59,7 @@ pub extern "C" fn bw_check(pack: &[u8]) -> Told
 // written, or the refusal: those of bw_check, then NOROOM. Numbers after those written do not change; a refusal changes none.
 #[no_mangle]
 pub extern "C" fn bw_read(pack: &[u8], rows: &mut [u32]) -> Told
-    ensures { λ r. ⌜ Lends toldOf lent (within (length (now (rows .entry))) (rowsRead (now (pack .entry)))) (now (rows .entry)) r (now (rows .exit)) ⌝ }
+    ensures { λ r. ⌜ BwRead (now (pack .entry)) (now (rows .entry)) r (now (rows .exit)) ⌝ }
 {
     let a = pack_rows::rows(pack, &mut *rows);
     told_answer(a)
@@ -75,7 +69,7 @@ pub extern "C" fn bw_read(pack: &[u8], rows: &mut [u32]) -> Told
 // What follows the new pack in `out` becomes 0; a refusal changes nothing.
 #[no_mangle]
 pub extern "C" fn bw_scrub(sheet: &[u8], pack: &[u8], out: &mut [u8]) -> Told
-    ensures { λ r. ⌜ Lends toldOf leaves (scrubbed (now (sheet .entry)) (now (pack .entry)) (length (now (out .entry)))) (now (out .entry)) r (now (out .exit)) ⌝ }
+    ensures { λ r. ⌜ BwScrub (now (sheet .entry)) (now (pack .entry)) (now (out .entry)) r (now (out .exit)) ⌝ }
 {
     let a = scrub::scrub(sheet, pack, &mut *out);
     told_answer(a)
@@ -85,7 +79,7 @@ pub extern "C" fn bw_scrub(sheet: &[u8], pack: &[u8], out: &mut [u8]) -> Told
 // the fields with their bit as place, PAD, then NOROOM. Numbers after those written do not change; a refusal changes none.
 #[no_mangle]
 pub extern "C" fn bw_pmd_read(kind: u32, value: &[u8], numbers: &mut [u32]) -> Told
-    ensures { λ r. ⌜ Lends toldOf lent (within (length (now (numbers .entry))) (fieldsRead kind (now (value .entry)))) (now (numbers .entry)) r (now (numbers .exit)) ⌝ }
+    ensures { λ r. ⌜ BwPmdRead kind (now (value .entry)) (now (numbers .entry)) r (now (numbers .exit)) ⌝ }
 {
     let a = pmd_read::pmd_read(kind, value, &mut *numbers);
     told_answer(a)
@@ -95,7 +89,7 @@ pub extern "C" fn bw_pmd_read(kind: u32, value: &[u8], numbers: &mut [u32]) -> T
 // number's index as place, then NOROOM. Bytes after those written do not change; a refusal changes none.
 #[no_mangle]
 pub extern "C" fn bw_pmd_write(kind: u32, numbers: &[u32], out: &mut [u8]) -> Told
-    ensures { λ r. ⌜ Lends toldOf lent (within (length (now (out .entry))) (fieldsWritten kind (now (numbers .entry)))) (now (out .entry)) r (now (out .exit)) ⌝ }
+    ensures { λ r. ⌜ BwPmdWrite kind (now (numbers .entry)) (now (out .entry)) r (now (out .exit)) ⌝ }
 {
     let a = pmd_write::pmd_write(kind, numbers, &mut *out);
     told_answer(a)

@@ -7,7 +7,7 @@ use Rattle.numbers.specs.Tags.{tagFrom, tagAt}
 use Rattle.numbers.specs.Lengths.{longAt, lengthAt}
 use Rattle.numbers.specs.Big.{bigAt}
 use Rattle.bits.specs.Bits.{bits}
-use Rattle.pack.specs.Fixed.{key}
+use Rattle.pack.specs.Fixed.{key, utilityLabels}
 use Rattle.pack.specs.Payloads.{valueFound, tagFound, payloadAt, innerAt, nameFrom, innersFrom}
 use Rattle.pack.specs.Items.{judged, itemAt, someInside, itemsFrom}
 use Rattle.pack.specs.Config.{configMaps}
@@ -20,6 +20,6 @@ use Rattle.promises.specs.Bench.{All, table}
 
 -- Every line of 01 that is marked P holds.
 pub bench : All table
-unfolding All digits numberFrom same andThen tagFrom tagAt longAt lengthAt bigAt bits key valueFound tagFound payloadAt innerAt nameFrom innersFrom judged itemAt someInside itemsFrom valueStart configMaps openingAt readFrom reading meant pmd.padding pmd.readFrom pmd.readAs records.width records.takes records.after records.closed records.opened levelOf
+unfolding All digits numberFrom same andThen tagFrom tagAt longAt lengthAt bigAt bits key utilityLabels valueFound tagFound payloadAt innerAt nameFrom innersFrom judged itemAt someInside itemsFrom valueStart configMaps openingAt readFrom reading meant pmd.padding pmd.readFrom pmd.readAs records.width records.takes records.after records.closed records.opened levelOf
 bench =
-    (refl, (refl, (refl, (refl, (refl, (refl, (refl, (refl, (refl, (refl, (refl, (refl, (refl, (refl, (refl, (refl, tt))))))))))))))))
+    (refl, (refl, (refl, (refl, (refl, (refl, (refl, (refl, (refl, (refl, (refl, (refl, (refl, (refl, (refl, (refl, (refl, tt)))))))))))))))))

@@ -8,9 +8,9 @@ use mathlib.Core.Logic.{_⊎_}
 use Prim.Native.Nat.{ℕ, _+_, _-_, _<_, _≤_, _^_}
 use lib.ListN.{length, take, drop, replicate}
 use Rattle.runs.specs.Digits.{Bytes, digits}
-use Rattle.runs.specs.Over.{Wrote}
+use Rattle.runs.specs.Over.{over, Wrote}
 use Rattle.runs.specs.Same.{among, listed}
-use Rattle.refusals.specs.Outcomes.{fine, refused, answered}
+use Rattle.refusals.specs.Outcomes.{Outcome, fine, refused, answered}
 use Rattle.refusals.specs.Refusals.{numberOf}
 use Rattle.refusals.specs.declared.Refusal.{Refusal}
 use Rattle.refusals.specs.declared.Refusal.the-variants as R
@@ -61,18 +61,22 @@ use Rattle.scrub.specs.Scrubs.{Scrubs}
 use Rattle.scrub.proofs.One as scrubs
 use Rattle.pmd.specs.Reading as pmd
 use Rattle.pmd.specs.Writing.{fieldsWritten}
-use Rattle.refusals.specs.Lent.{within, lent, Lends, Delivered}
+use Rattle.refusals.specs.Lent.{within, Delivered}
 use Rattle.pmd.specs.Gain.{levelOf}
 use Rattle.pmd.specs.declared.Level.{Level}
 use Rattle.pmd.proofs.RoundTrips as trips
 use Rattle.pmd.proofs.One as gains
 use Rattle.pmd_read.proofs.One as pmd-reads
 use Rattle.pmd_write.proofs.One as pmd-writes
-use Rattle.pack_rows.specs.Rows.{rowsRead}
-use Rattle.ballastwren.specs.Told.{toldOf, toldGainOf}
+use Rattle.ballastwren.specs.Told.{toldOf, toldGainOf, BwRead, BwScrub, BwPmdRead, BwPmdWrite}
 use Rattle.ballastwren.specs.declared.Told.{Told}
 use Rattle.ballastwren.specs.declared.ToldGain.{ToldGain}
+use Rattle.ballastwren.proofs.Edge as edge
 use Rattle.ballastwren.proofs.One as exports
+
+-- an outcome whose result is a list, as C is told it
+abbrev told : Outcome (List ℕ) → Told
+told o = toldOf (answered length o)
 
 -- NUMBERS
 
@@ -138,60 +142,72 @@ pub list-one : (pack out : List ℕ) {a b : ℕ} {us vs : List ℕ} → Wrote ou
 list-one = listings.list-one
 
 -- SCRUBBING A PACK
--- `Scrubs sheet s before a after` is the contract of `scrub`: on these bytes of a sheet, this pack and a buffer that held `before`, it answers a and
--- leaves `after` in the buffer.
+-- `BwScrub sheet s before a after` is the contract of `bw_scrub`: handed these bytes of a sheet and this pack, and lent a buffer that held `before`, it
+-- tells C the two numbers a and leaves `after` in the buffer. A pack was written exactly where the first number is 0, and then the second is its length.
 
--- Two outcomes on the same sheet, pack and buffer coincide.
+-- Two outcomes of `scrub`, which it stands on, coincide on the same sheet, pack and buffer.
 pub scrub-one : (sheet s before : List ℕ) {a b : Answer} {us vs : List ℕ} → Scrubs sheet s before a us → Scrubs sheet s before b vs → (a ≡ b) × (us ≡ vs)
 scrub-one = scrubs.scrub-one
 
 module _ (sheet s : List ℕ) (sh : Sheet) (r : Read) (named : sheetOf sheet ≡ fine sh) (accepted : reading s ≡ fine r) where
   -- Two accepted packs of the same pack offset and the same kept items, in order and in Syncs of the same two numbers, scrubbed by one sheet into
   -- buffers of equal length, are answered the same; and where a pack is written the whole buffers are equal, whatever they held before.
-  pub same-kept-same-buffer : (t : List ℕ) (q : Read) {before other us vs : List ℕ} {a b : Answer} → reading t ≡ fine q
+  pub same-kept-same-buffer : (t : List ℕ) (q : Read) {before other us vs : List ℕ} {a b : Told} → reading t ≡ fine q
       → (meant s r) .offset ≡ (meant t q) .offset → keptItems sh ((meant s r) .items) ≡ keptItems sh ((meant t q) .items)
-      → length before ≡ length other → Scrubs sheet s before a us → Scrubs sheet t other b vs
-      → (a ≡ b) × ((n : ℕ) → a ≡ A.Done n → us ≡ vs)
+      → length before ≡ length other → BwScrub sheet s before a us → BwScrub sheet t other b vs
+      → (a ≡ b) × (a .number ≡ 0 → us ≡ vs)
   same-kept-same-buffer t q {before} {other} also offsets items lengths x y =
       let same = scrubbing.scrub-same sheet s t sh r q (length before) named accepted also offsets items ∙ ap (scrubbed sheet t) lengths in
       let cleared = scrubbing.done-same before other (scrubbed sheet s (length before)) lengths in
-      (x .told ∙ ap (answered length) same ∙ sym (y .told), λ n done. x .run ∙ cleared n (sym (x .told) ∙ done) ∙ ap (leaves other) same ∙ sym (y .run))
+      (x .told ∙ ap told same ∙ sym (y .told), λ done. x .run ∙ cleared _ (edge.answer-done x done) ∙ ap (leaves other) same ∙ sym (y .run))
 
-  -- Changing, adding or removing payloads that the sheet does not name, tag tables or length forms of an accepted pack changes nothing: two packs
-  -- that have, item by item, the same payloads that the sheet names are answered the same and leave the same in one buffer.
-  pub no-trace : (t : List ℕ) (q : Read) {before us vs : List ℕ} {a b : Answer} → reading t ≡ fine q
+  -- Two accepted packs of the same pack offset that have, item by item, the same payloads that the sheet names are answered the same and leave the same
+  -- in one buffer: however their other payloads, tag tables and length forms differ, nothing of that is seen.
+  pub no-trace : (t : List ℕ) (q : Read) {before us vs : List ℕ} {a b : Told} → reading t ≡ fine q
       → (meant s r) .offset ≡ (meant t q) .offset → namedBy sh ((meant s r) .items) ≡ namedBy sh ((meant t q) .items)
-      → Scrubs sheet s before a us → Scrubs sheet t before b vs → (a ≡ b) × (us ≡ vs)
+      → BwScrub sheet s before a us → BwScrub sheet t before b vs → (a ≡ b) × (us ≡ vs)
   no-trace t q {before} also offsets items x y =
       let tell = keeping.named-tell sh ((meant s r) .items) ((meant t q) .items) items in
       let same = scrubbing.scrub-same sheet s t sh r q (length before) named accepted also offsets tell in
-      (x .told ∙ ap (answered length) same ∙ sym (y .told), x .run ∙ ap (leaves before) same ∙ sym (y .run))
+      (x .told ∙ ap told same ∙ sym (y .told), x .run ∙ ap (leaves before) same ∙ sym (y .run))
 
   -- Reading the pack that was written gives exactly the pack offset and the kept items of the pack that was scrubbed, and a good CRC.
-  pub read-back : {before after : List ℕ} {a : Answer} (n : ℕ) → Bytes s → Scrubs sheet s before a after → a ≡ A.Done n
-      → ReadsAs (take n after) (kept sh (meant s r))
-  read-back {before} n bytes x done =
-      subst (λ (b : List ℕ). ReadsAs (take n b) (kept sh (meant s r))) (sym (x .run))
-      (back.scrub-reads s r sh bytes accepted sheet _ (length before) named (scrubbing.done-front before _ n (sym (x .told) ∙ done)))
+  pub read-back : {before after : List ℕ} {a : Told} → Bytes s → BwScrub sheet s before a after → a .number ≡ 0
+      → ReadsAs (take (a .value) after) (kept sh (meant s r))
+  read-back {before} {after} {a} bytes x done =
+      subst (λ (b : List ℕ). ReadsAs (take (a .value) b) (kept sh (meant s r))) (sym (x .run))
+      (back.scrub-reads s r sh bytes accepted sheet _ (length before) named (scrubbing.done-front before _ (a .value) (edge.answer-done x done)))
+
+  -- Every payload of the pack that was written is named by the sheet; and the payloads that the sheet names of the pack that was scrubbed are all there,
+  -- unaltered, in their order, each with the two numbers of its Sync.
+  pub written-only-whole : {before after : List ℕ} {a : Told} (bytes : Bytes s) (x : BwScrub sheet s before a after) (done : a .number ≡ 0)
+      → let out = (meant (take (a .value) after) ((read-back bytes x done) .read)) .items in
+      Each (λ (p : Placed). onSheet sh p ≡ true) (placed out) × (placed out ≡ those (onSheet sh) (placed ((meant s r) .items)))
+  unfolding kept
+  written-only-whole bytes x done =
+      let is = ap (λ (k : Said). placed (k .items)) ((read-back bytes x done) .says) ∙ keeping.kept-placed sh ((meant s r) .items) in
+      (subst (Each (λ (p : Placed). onSheet sh p ≡ true)) (sym is) (those-pass (onSheet sh) (placed ((meant s r) .items))), is)
 
   -- Scrubbing the pack that was written again, by the same sheet and into a buffer of the same length, gives the same answer and the same buffer.
-  pub scrub-again : {before other after again : List ℕ} {a b : Answer} (n : ℕ) → Bytes s → Scrubs sheet s before a after → a ≡ A.Done n
-      → length before ≡ length other → Scrubs sheet (take n after) other b again → (a ≡ b) × (after ≡ again)
+  pub scrub-again : {before other after again : List ℕ} {a b : Told} → Bytes s → BwScrub sheet s before a after → a .number ≡ 0
+      → length before ≡ length other → BwScrub sheet (take (a .value) after) other b again → (a ≡ b) × (after ≡ again)
   unfolding kept
-  scrub-again {before} {other} {after} n bytes x done lengths y =
-      let w = read-back n bytes x done in
+  scrub-again {before} {other} {after} {again} {a} bytes x done lengths y =
+      let w = read-back bytes x done in
       let items = sym (ap (λ (k : Said). keptItems sh (k .items)) (w .says) ∙ keeping.kept-again sh ((meant s r) .items)) in
-      let same = same-kept-same-buffer (take n after) (w .read) (w .accepted) (sym (ap (λ (k : Said). k .offset) (w .says))) items lengths x y in
-      (same .0, same .1 n done)
+      let same = same-kept-same-buffer (take (a .value) after) (w .read) (w .accepted) (sym (ap (λ (k : Said). k .offset) (w .says))) items lengths x y in
+      (same .0, same .1 done)
 
-  -- The pack is written where buffer and cap hold it; NOROOM is given exactly where one of them does not.
-  pub room-exactly : (room : ℕ)
-      → (length (written (kept sh (meant s r))) ≤ room → length (written (kept sh (meant s r))) ≤ packCap → scrubbed sheet s room ≡ fine (written (kept sh (meant s r))))
-      × ((room < length (written (kept sh (meant s r)))) ⊎ (packCap < length (written (kept sh (meant s r)))) → scrubbed sheet s room ≡ refused R.NoRoom 0)
-  room-exactly room =
+  -- The pack is written, and its length told, where buffer and cap hold it; NOROOM, number 15 and place 0, is told exactly where one of them does not.
+  pub room-exactly : {before after : List ℕ} {a : Told} → BwScrub sheet s before a after
+      → (length (written (kept sh (meant s r))) ≤ length before → length (written (kept sh (meant s r))) ≤ packCap
+      → a ≡ record { number = 0; value = length (written (kept sh (meant s r))) })
+      × ((length before < length (written (kept sh (meant s r)))) ⊎ (packCap < length (written (kept sh (meant s r)))) → a ≡ record { number = 15; value = 0 })
+  unfolding answered
+  room-exactly {before} x =
       let w = written (kept sh (meant s r)) in
-      let e = scrubbing.scrub-is sheet s sh r room named accepted in
-      (λ h g. e ∙ scrubbing.room-enough room w h g, λ h. e ∙ scrubbing.room-short room w h)
+      let e = scrubbing.scrub-is sheet s sh r (length before) named accepted in
+      (λ h g. x .told ∙ ap told (e ∙ scrubbing.room-enough (length before) w h g), λ h. x .told ∙ ap told (e ∙ scrubbing.room-short (length before) w h))
 
 -- A malformed sheet is refused first, as SHEET with place 0, whatever the pack and the buffer; then the pack is, as reading refuses it.
 pub refused-in-order : (sheet s : List ℕ) (room : ℕ) (why : Refusal) (place : ℕ)
@@ -242,15 +258,11 @@ pub first-appearance : (ns : List SaidName) (l : List ℕ) (t : ℕ)
     × (labelsIn [] (ns ++ (number t ∷ [])) ≡ labelsIn [] ns)
 first-appearance ns l t = (labels.label-last ns l, labels.number-last ns t)
 
--- A refusal changes no byte of the buffer.
-pub refused-unchanged : (sheet s : List ℕ) {before after : List ℕ} {a : Answer} (why : Refusal) (place : ℕ) → Scrubs sheet s before a after
-    → a ≡ A.Refused why place → after ≡ before
-refused-unchanged sheet s {before} why place x given = x .run ∙ scrubbing.refused-same before (scrubbed sheet s (length before)) why place (sym (x .told) ∙ given)
-
--- After a pack of n bytes the buffer holds 0 to its end.
-pub rest-cleared : (sheet s : List ℕ) {before after : List ℕ} {a : Answer} (n : ℕ) → Scrubs sheet s before a after
-    → a ≡ A.Done n → drop n after ≡ replicate (length before - n) 0
-rest-cleared sheet s {before} n x done = ap (drop n) (x .run) ∙ scrubbing.done-rest before (scrubbed sheet s (length before)) n (sym (x .told) ∙ done)
+-- After a pack of so many bytes as C is told the buffer holds 0 to its end.
+pub rest-cleared : (sheet s : List ℕ) {before after : List ℕ} {a : Told} → BwScrub sheet s before a after
+    → a .number ≡ 0 → drop (a .value) after ≡ replicate (length before - a .value) 0
+rest-cleared sheet s {before} {after} {a} x done =
+    ap (drop (a .value)) (x .run) ∙ scrubbing.done-rest before (scrubbed sheet s (length before)) (a .value) (edge.answer-done x done)
 
 -- PMD VALUES
 
@@ -261,6 +273,19 @@ read-then-write = trips.read-then-write
 -- Reading the value that a list of fields was written as gives that list back, for every kind.
 pub write-then-read : (kind : ℕ) (s xs : List ℕ) → fieldsWritten kind xs ≡ fine s → pmd.fieldsRead kind s ≡ fine xs
 write-then-read = trips.write-then-read
+
+-- So it is in C, whenever both lent runs have room: what `bw_pmd_read` read from a value, handed to `bw_pmd_write`, is written as that value, and what
+-- follows it in the buffer stays.
+pub bw-read-then-write : (kind : ℕ) (value : List ℕ) {before numbers out end : List ℕ} {a b : Told} → Bytes value
+    → BwPmdRead kind value before a numbers → a .number ≡ 0 → BwPmdWrite kind (take (a .value) numbers) out b end → length value ≤ length out
+    → (b ≡ record { number = 0; value = length value }) × (end ≡ over out 0 value)
+bw-read-then-write kind value bytes = edge.there-and-back (fieldsWritten kind) value (λ xs e. trips.read-then-write kind value xs bytes e)
+
+-- And what `bw_pmd_write` wrote of a list of numbers, handed to `bw_pmd_read`, is read as that list.
+pub bw-write-then-read : (kind : ℕ) (numbers : List ℕ) {before value run end : List ℕ} {a b : Told}
+    → BwPmdWrite kind numbers before a value → a .number ≡ 0 → BwPmdRead kind (take (a .value) value) run b end → length numbers ≤ length run
+    → (b ≡ record { number = 0; value = length numbers }) × (end ≡ over run 0 numbers)
+bw-write-then-read kind numbers = edge.there-and-back (pmd.fieldsRead kind) numbers (λ s e. trips.write-then-read kind s numbers e)
 
 -- Two outcomes of `pmd_read` on the same kind, value and numbers coincide, the numbers included; so do two of `pmd_write`, the buffer included, and
 -- two levels of a gain.
@@ -278,26 +303,44 @@ pub gain-one : (g : ℕ) (a b : Level) → a ≡ levelOf g → b ≡ levelOf g �
 gain-one = gains.gain-one
 
 -- WHAT C CALLS
+
+-- What C is told determines the answer and its place: no two answers are told by the same two numbers.
+pub told-apart : (a b : Answer) → toldOf a ≡ toldOf b → a ≡ b
+told-apart = edge.told-apart
+
+-- Where C is told a refusal, by any number but 0, every lent run holds what it held before.
+pub read-unchanged : (pack : List ℕ) {before after : List ℕ} {a : Told} → BwRead pack before a after → (a .number ≡ 0 → ⊥) → after ≡ before
+read-unchanged pack {before} x = edge.unchanged x (edge.lent-unchanged before)
+
+pub refused-unchanged : (sheet pack : List ℕ) {before after : List ℕ} {a : Told} → BwScrub sheet pack before a after → (a .number ≡ 0 → ⊥) → after ≡ before
+refused-unchanged sheet pack {before} x = edge.unchanged x (edge.leaves-unchanged before)
+
+pub pmd-read-unchanged : (kind : ℕ) (value : List ℕ) {before after : List ℕ} {a : Told} → BwPmdRead kind value before a after → (a .number ≡ 0 → ⊥) → after ≡ before
+pmd-read-unchanged kind value {before} x = edge.unchanged x (edge.lent-unchanged before)
+
+pub pmd-write-unchanged : (kind : ℕ) (numbers : List ℕ) {before after : List ℕ} {a : Told} → BwPmdWrite kind numbers before a after → (a .number ≡ 0 → ⊥) → after ≡ before
+pmd-write-unchanged kind numbers {before} x = edge.unchanged x (edge.lent-unchanged before)
+
 -- Two outcomes of an export on the same input coincide: the numbers that C is told, and every lent run and buffer to its last element.
 
 pub bw-check-one : (pack : List ℕ) (a b : Told) → a ≡ toldOf (checked pack) → b ≡ toldOf (checked pack) → a ≡ b
 bw-check-one = exports.bw-check-one
 
 pub bw-read-one : (pack before us vs : List ℕ) (a b : Told)
-    → Lends toldOf lent (within (length before) (rowsRead pack)) before a us → Lends toldOf lent (within (length before) (rowsRead pack)) before b vs → (a ≡ b) × (us ≡ vs)
+    → BwRead pack before a us → BwRead pack before b vs → (a ≡ b) × (us ≡ vs)
 bw-read-one = exports.bw-read-one
 
 pub bw-scrub-one : (sheet pack before us vs : List ℕ) (a b : Told)
-    → Lends toldOf leaves (scrubbed sheet pack (length before)) before a us → Lends toldOf leaves (scrubbed sheet pack (length before)) before b vs → (a ≡ b) × (us ≡ vs)
+    → BwScrub sheet pack before a us → BwScrub sheet pack before b vs → (a ≡ b) × (us ≡ vs)
 bw-scrub-one = exports.bw-scrub-one
 
 pub bw-pmd-read-one : (kind : ℕ) (value before us vs : List ℕ) (a b : Told)
-    → Lends toldOf lent (within (length before) (pmd.fieldsRead kind value)) before a us → Lends toldOf lent (within (length before) (pmd.fieldsRead kind value)) before b vs
+    → BwPmdRead kind value before a us → BwPmdRead kind value before b vs
     → (a ≡ b) × (us ≡ vs)
 bw-pmd-read-one = exports.bw-pmd-read-one
 
 pub bw-pmd-write-one : (kind : ℕ) (numbers before us vs : List ℕ) (a b : Told)
-    → Lends toldOf lent (within (length before) (fieldsWritten kind numbers)) before a us → Lends toldOf lent (within (length before) (fieldsWritten kind numbers)) before b vs
+    → BwPmdWrite kind numbers before a us → BwPmdWrite kind numbers before b vs
     → (a ≡ b) × (us ≡ vs)
 bw-pmd-write-one = exports.bw-pmd-write-one
 

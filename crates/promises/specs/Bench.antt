@@ -1,11 +1,11 @@
--- Trusted. The bench examples of document 01 that are marked P, as one table. K is the pack key.
+-- Trusted. The bench examples of document 01 that are marked P, as one table. The key and the three labels stand here byte for byte.
 use mathlib.Core.Path.{_≡_}
 use mathlib.Core.List.{List, [], _∷_, _++_}
 use Prim.Native.Nat.{ℕ}
 use lib.IntN.{pos, negsuc}
 use Rattle.refusals.specs.declared.Refusal.the-variants as R
 use Rattle.refusals.specs.Outcomes.{Outcome, fine, refused, andThen}
-use Rattle.pack.specs.Fixed.{key}
+use Rattle.pack.specs.Fixed.{utilityLabels}
 use Rattle.pack.specs.Said.{number, SaidItem, single, Said}
 use Rattle.pack.specs.Reading.{reading}
 use Rattle.pack.specs.Meaning.{meant}
@@ -14,8 +14,13 @@ use Rattle.pmd.specs.Gain.{levelOf}
 use Rattle.pmd.specs.declared.Level.{Level}
 use Rattle.pmd.specs.declared.Level.the-variants as G
 
--- a line: a pack, its key left out, and what comes of it; a PMD value of a kind, and its fields; a gain, and its level
+-- K, the pack key
+abbrev pub K : List ℕ
+K = 0x06 ∷ 0x0E ∷ 0x2B ∷ 0x34 ∷ 0x02 ∷ 0x7F ∷ 0x01 ∷ 0x01 ∷ 0x0C ∷ 0x04 ∷ 0x01 ∷ 0x00 ∷ 0x00 ∷ 0x00 ∷ 0x00 ∷ 0x00 ∷ []
+
+-- a line: the labels of Config, Sync and CRC; a pack, K left out, and what comes of it; a PMD value of a kind, and its fields; a gain, and its level
 pub data Line : Type 0 where
+  labels : List (List ℕ) → Line
   pack : List ℕ → Outcome Said → Line
   value : ℕ → List ℕ → Outcome (List ℕ) → Line
   gain : ℕ → Level → Line
@@ -25,7 +30,8 @@ abbrev pub saidBy : List ℕ → Outcome Said
 saidBy s = andThen (reading s) (λ r. fine (meant s r))
 
 abbrev pub LineHolds : Line → Type 0
-LineHolds (pack rest expected) = saidBy (key ++ rest) ≡ expected
+LineHolds (labels expected) = utilityLabels ≡ expected
+LineHolds (pack rest expected) = saidBy (K ++ rest) ≡ expected
 LineHolds (value kind s expected) = pmd.fieldsRead kind s ≡ expected
 LineHolds (gain g expected) = levelOf g ≡ expected
 
@@ -43,7 +49,12 @@ fiveAA = single (record { name = number 5; value = 0xAA ∷ [] }) ∷ []
 
 abbrev pub table : List Line
 table =
-    pack (0x00 ∷ []) (items [])
+    labels
+    ((0x06 ∷ 0x0E ∷ 0x2B ∷ 0x34 ∷ 0x04 ∷ 0x01 ∷ 0x01 ∷ 0x0D ∷ 0x04 ∷ 0x04 ∷ 0x02 ∷ 0x01 ∷ 0x00 ∷ 0x00 ∷ 0x00 ∷ 0x00 ∷ [])
+    ∷ (0x06 ∷ 0x0E ∷ 0x2B ∷ 0x34 ∷ 0x04 ∷ 0x01 ∷ 0x01 ∷ 0x0D ∷ 0x04 ∷ 0x04 ∷ 0x02 ∷ 0x02 ∷ 0x00 ∷ 0x00 ∷ 0x00 ∷ 0x00 ∷ [])
+    ∷ (0x06 ∷ 0x0E ∷ 0x2B ∷ 0x34 ∷ 0x04 ∷ 0x01 ∷ 0x01 ∷ 0x0D ∷ 0x04 ∷ 0x04 ∷ 0x02 ∷ 0x03 ∷ 0x00 ∷ 0x00 ∷ 0x00 ∷ 0x00 ∷ [])
+    ∷ [])
+    ∷ pack (0x00 ∷ []) (items [])
     ∷ pack (0x04 ∷ 0x05 ∷ 0x81 ∷ 0x01 ∷ 0xAA ∷ []) (items fiveAA)
     ∷ pack (0x03 ∷ 0x05 ∷ 0x01 ∷ 0xAA ∷ []) (items fiveAA)
     ∷ pack (0x80 ∷ []) (refused R.Length 16)
