@@ -17,6 +17,7 @@ use Rattle.refusals.proofs.Lent.{within-fine, fine-within}
 use Rattle.refusals.proofs.Numbers as numbers
 use Rattle.refusals.proofs.Outcomes.{done-of, refused-of}
 use Rattle.scrub_kept.specs.Scrubbed.{leaves}
+use Rattle.scrub_kept.proofs.Scrubbing.{refused-same}
 use Rattle.ballastwren.specs.Told.{toldOf}
 use Rattle.ballastwren.specs.declared.Told.{Told}
 
@@ -60,8 +61,8 @@ unfolding lent
 lent-unchanged before why place = refl
 
 pub leaves-unchanged : (before : List ℕ) (why : Refusal) (place : ℕ) → leaves before (refused why place) ≡ before
-unfolding leaves
-leaves-unchanged before why place = refl
+unfolding answered
+leaves-unchanged before why place = refused-same before (refused why place) why place refl
 
 -- THERE AND BACK
 
