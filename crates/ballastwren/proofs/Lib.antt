@@ -1,2 +1,3 @@
 pub mod Edge
+pub mod Most
 pub mod One

@@ -72,6 +72,7 @@ use Rattle.ballastwren.specs.Told.{toldOf, toldGainOf, BwRead, BwScrub, BwPmdRe
 use Rattle.ballastwren.specs.declared.Told.{Told}
 use Rattle.ballastwren.specs.declared.ToldGain.{ToldGain}
 use Rattle.ballastwren.proofs.Edge as edge
+use Rattle.ballastwren.proofs.Most as most
 use Rattle.ballastwren.proofs.One as exports
 
 -- an outcome whose result is a list, as C is told it
@@ -320,6 +321,10 @@ pmd-read-unchanged kind value {before} x = edge.unchanged x (edge.lent-unchanged
 
 pub pmd-write-unchanged : (kind : ℕ) (numbers : List ℕ) {before after : List ℕ} {a : Told} → BwPmdWrite kind numbers before a after → (a .number ≡ 0 → ⊥) → after ≡ before
 pmd-write-unchanged kind numbers {before} x = edge.unchanged x (edge.lent-unchanged before)
+
+-- `bw_read` never writes more than 520 numbers, which is what the header calls BW_ROWS_MAX.
+pub rows-most : (pack : List ℕ) {before after : List ℕ} {a : Told} → Bytes pack → BwRead pack before a after → a .number ≡ 0 → a .value ≤ 520
+rows-most = most.rows-most
 
 -- Two outcomes of an export on the same input coincide: the numbers that C is told, and every lent run and buffer to its last element.
 
