@@ -1,7 +1,7 @@
 -- What C is told of a success counts no more than the lent run holds, so the part that is handed on lies in it; and what comes of that part.
 use mathlib.Core.Path.{_≡_, ap, subst, _∙_}
 use mathlib.Core.List.{List, _++_}
-use Prim.Native.Nat.{ℕ, _+_, _-_, _≤_}
+use Prim.Native.Nat.{ℕ, _-_, _≤_}
 use native.Mathlib.Omega.{arith}
 use lib.ListN.{length, take, replicate, length-append}
 use Rattle.runs.specs.Digits.{Bytes}

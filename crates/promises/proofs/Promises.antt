@@ -71,6 +71,8 @@ use Rattle.pmd_write.proofs.One as pmd-writes
 use Rattle.ballastwren.specs.Told.{toldOf, toldGainOf, BwRead, BwScrub, BwPmdRead, BwPmdWrite}
 use Rattle.ballastwren.specs.declared.Told.{Told}
 use Rattle.ballastwren.specs.declared.ToldGain.{ToldGain}
+use Rattle.promises.specs.Starts.{AllStand}
+use Rattle.promises.proofs.Starts as starts
 use Rattle.ballastwren.proofs.Edge as edge
 use Rattle.ballastwren.proofs.Most as most
 use Rattle.ballastwren.proofs.One as exports
@@ -120,6 +122,11 @@ reading-sound = sound.reading-sound
 -- The layout of every well-formed description is accepted, and its reading means what the description says.
 pub reading-complete : (d : Description) → WellFormed d → Complete d
 reading-complete = complete.reading-complete
+
+-- Every payload of an accepted pack, those inside Syncs too, stands where its reading says that it starts: its tag, a form of its length, and its value,
+-- which is the very stretch that the reading speaks of; so does every Sync with its two numbers, and every label of a mapping.
+pub payloads-stand : (s : List ℕ) → Bytes s → (r : Read) → reading s ≡ fine r → AllStand s r
+payloads-stand = starts.all-stand
 
 -- Two readings that meet the contract of `read` on the same bytes coincide, unused slots included; so do two answers of `check`, and the answer of
 -- `check` is the one in the reading. (Of `value`, `label` and `list` too.)
