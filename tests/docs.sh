@@ -1,8 +1,8 @@
 #!/usr/bin/env bash
 # Holds the pages to the tree: every path that README.md, CHANGELOG.md and docs/ name exists, every theorem that they name is stated
 # (in the file that follows it in brackets, or on the page of promises), every form of docs/FORMS.md stands at its line, every heading of
-# docs/DECISIONS.md is in its index, every must-fail edit says which wrong answer it is, and the border between trusted and inner specifications
-# is the one that the promises draw.
+# docs/DECISIONS.md is in its index, every must-fail edit says which wrong answer it is, the border between trusted and inner specifications
+# is the one that the promises draw, and every public function stands once in docs/GUARANTEES.md under the law that it has one outcome.
 # Ends with 'N passed, M failed'.
 set -uo pipefail
 cd "$(dirname "$0")/.." || exit 2
@@ -115,6 +115,60 @@ index() {
     done < <(sed -nE 's/^- \[([^]]*)\].*/\1/p' docs/DECISIONS.md)
 }
 
+# functions: each public function as CRATE::NAME, and its contract on the same line.
+functions() {
+    awk '/^pub (extern "C" )?fn / {
+            name = $0; sub(/^pub (extern "C" )?fn /, "", name); sub(/\(.*/, "", name)
+            crate = FILENAME; sub(/^crates\//, "", crate); sub(/\/.*/, "", crate); text = ""
+        }
+        name != "" { text = text " " $0 }
+        name != "" && /^\{$/ {
+            text = substr(text, index(text, " ensures { λ ")); sub(/^ ensures \{ λ [a-z_]+\. ⌜ /, "", text)
+            print crate "::" name " " text; name = ""
+        }' crates/*/src/*.rt
+}
+
+# equations NAME: whether every field of the record NAME of a specification is an equation.
+equations() {
+    awk -v name="$1" '/^pub record / { here = ($3 == name) }
+        here && /^  pub / { fields++; if ($0 !~ / ≡ /) others++ }
+        /^$/ { here = 0 }
+        END { exit !(fields > 0 && others == 0) }' crates/*/specs/*.antt
+}
+
+# formed HEADING CONTRACT: whether the contract has the form that the heading speaks of.
+formed() {
+    case $1 in
+    "An equation with a definition") [[ $2 =~ ^\(?(r|n|now r|now \([a-z]+ \.exit\))\ ≡\  ]] ;;
+    "Bytes or numbers written from a place on") [[ $2 == "Wrote "* ]] ;;
+    "A call that is lent a run") [[ $2 =~ ^(Delivered|Scrubs|Bw[A-Za-z]+)\  ]] ;;
+    "A record of equations") equations "${2%% *}" ;;
+    *) [[ -n $2 ]] ;;
+    esac
+}
+
+# The part of docs/GUARANTEES.md on one outcome names every public function once and no other; what it lists under a form of contract has that form.
+outcomes() {
+    local section heading='' line name contract count=0 open=0
+    local -A contracts=() stands=()
+    section=$(sed -n '/^## One outcome for every public function$/,/^## The listing$/p' docs/GUARANTEES.md)
+    while read -r name contract; do contracts[$name]=$contract; done < <(functions)
+    while read -r line; do
+        [[ $line == "### "* ]] && heading=${line#\#\#\# }
+        for name in $(grep -oE '`[a-z_0-9]+::[a-z_0-9]+`' <<<"$line" | tr -d '`'); do
+            stands[$name]=${stands[$name]:-}x
+            [[ $heading == Exceptions ]] && open=$((open + 1))
+            if formed "$heading" "${contracts[$name]:-}"; then told yes; else told no "docs/GUARANTEES.md: $name has no contract for '$heading'"; fi
+        done
+    done <<<"$section"
+    for name in "${!contracts[@]}"; do
+        count=$((count + 1))
+        if [[ ${stands[$name]:-} == x ]]; then told yes; else told no "docs/GUARANTEES.md: $name does not stand once under 'One outcome'"; fi
+    done
+    line="$count public functions, $((count - open)) with one outcome by a theorem, $open exceptions"
+    if grep -qF -- "$line" <<<"$section"; then told yes; else told no "docs/GUARANTEES.md: there are $line"; fi
+}
+
 paths
 theorems_with_files
 theorems_promised
@@ -122,5 +176,6 @@ forms
 border
 edits
 index
+outcomes
 echo "$passed passed, $failed failed"
 [[ $failed -eq 0 ]]
