@@ -1,5 +1,6 @@
 -- Inner. An array of numbers as cells of so many numbers each.
-use mathlib.Core.List.{List, [], _∷_}
+use mathlib.Core.Path.{_≡_}
+use mathlib.Core.List.{List, [], _∷_, _++_}
 use Prim.Native.Nat.{ℕ, zero, suc, _+_}
 
 -- k cells of w numbers, the first at `at`, each as `read` has it
@@ -10,3 +11,12 @@ cellsFrom read w (suc k) s at = read s at ∷ cellsFrom read w k s (at + w)
 -- the first k cells of an array
 abbrev pub cells : {A : Type 0} → (List ℕ → ℕ → A) → ℕ → ℕ → List ℕ → List A
 cells read w k s = cellsFrom read w k s 0
+
+-- the numbers of cells, one after the other, each as `put` has them
+unfoldable pub numbersOf : {A : Type 0} → (A → List ℕ) → List A → List ℕ
+numbersOf put [] = []
+numbersOf put (x ∷ xs) = put x ++ numbersOf put xs
+
+-- an array is the numbers of its own k cells, and so it holds nothing but what they tell
+abbrev pub Own : {A : Type 0} → (List ℕ → ℕ → A) → (A → List ℕ) → ℕ → ℕ → List ℕ → Type 0
+Own read put w k s = s ≡ numbersOf put (cells read w k s)
