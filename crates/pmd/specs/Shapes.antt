@@ -1,14 +1,15 @@
 -- Inner. What the loops of the reader and the writer go by: the pieces of a kind as they walk them, the number of a value, and a list that has room.
 use mathlib.Core.Path.{_≡_}
-use mathlib.Core.List.{List, [], _∷_}
-use Prim.Native.Nat.{ℕ, _<_, _≤_}
-use lib.ListN.{length, take, drop}
+use mathlib.Core.List.{List, [], _∷_, _++_}
+use Prim.Native.Nat.{ℕ, _-_, _<_, _≤_}
+use lib.ListN.{length, take, drop, replicate}
 use Rattle.refusals.specs.Outcomes.{Outcome, fine}
+use Rattle.pmd.specs.declared.Field.the-variants as F
 use Rattle.pmd.specs.declared.Kind.{Kind}
 use Rattle.pmd.specs.declared.Piece.{Piece}
 use Rattle.pmd.specs.declared.Value.{Value}
 use Rattle.pmd.specs.declared.Value.the-variants as X
-use Rattle.pmd.specs.Table.{widthOf, recordOf}
+use Rattle.pmd.specs.Table.{widthOf, once, onceOf}
 use Rattle.pmd.specs.Records.{firstRecord}
 use Rattle.pmd.specs.declared.Shape.{Shape}
 
@@ -40,11 +41,13 @@ pub record Walkable (shape : Shape) : Type 0 where
   pub long : shape .size ≤ length (shape .pieces)
   pub wide : leftOf shape 0 ≡ widened (leftOf shape 0)
 
--- a shape holds the pieces of a kind
-pub record ShapeFor (kind : Kind) (shape : Shape) : Type 0 where
-  pub first : leftOf shape 0 ≡ firstRecord kind
-  pub again : leftOf shape (shape .again) ≡ recordOf kind
-  pub walkable : Walkable shape
+-- the shape of a kind: its pieces up to the end of the first record, bytes that do not count behind them, and further records from what stands once on
+abbrev pub shapeOf : Kind → Shape
+shapeOf kind = record {
+  pieces = firstRecord kind ++ replicate (11 - length (firstRecord kind)) (once F.Byte);
+  again = length (onceOf kind);
+  size = length (firstRecord kind);
+}
 
 -- an outcome is a list that has room, so that it can be stored or put without a look at what might be wrong
 pub record Roomy (o : Outcome (List ℕ)) (room : ℕ) : Type 0 where

@@ -19,7 +19,8 @@ use Rattle.pmd.specs.declared.Piece.{Piece}
 use Rattle.pmd.specs.declared.Shape.{Shape}
 use Rattle.pmd.specs.Table.{kindOf}
 use Rattle.pmd.specs.Reading.{readFrom, readAs, fieldsRead}
-use Rattle.pmd.specs.Shapes.{ShapeFor, Roomy}
+use Rattle.pmd.specs.Shapes.{Roomy}
+use Rattle.pmd.proofs.Shapes.{ShapeFor}
 use Rattle.pmd.proofs.Answers.{delivers-noroom, delivers-all}
 use Rattle.pmd_read.specs.ByShape.{readShape}
 

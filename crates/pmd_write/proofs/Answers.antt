@@ -21,9 +21,10 @@ use Rattle.pmd.specs.declared.Piece.{Piece}
 use Rattle.pmd.specs.declared.Shape.{Shape}
 use Rattle.pmd.specs.Table.{kindOf}
 use Rattle.pmd.specs.Writing.{bytesOfBits, packed, packing, writeFrom, writeAs, fieldsWritten}
-use Rattle.pmd.specs.Shapes.{leftOf, ShapeFor, Roomy}
+use Rattle.pmd.specs.Shapes.{leftOf, Roomy}
 use Rattle.pmd.proofs.Packed.{length-packed}
 use Rattle.pmd.proofs.Trip.{write-below}
+use Rattle.pmd.proofs.Shapes.{ShapeFor}
 use Rattle.pmd.proofs.Answers.{delivers-noroom, delivers-all}
 use Rattle.pmd_write.specs.ByShape.{writeShape, weight}
 

@@ -1,14 +1,14 @@
 -- `pmd::shape_of` meets its contract: each arm by the kind that the match found.
-use mathlib.Core.Path.{_≡_, sym, subst}
+use mathlib.Core.Path.{_≡_, sym, ap, _∙_}
 use borrow.Author.Needs.{needs}
 use Rattle.pmd.specs.declared.Kind.{Kind}
 use Rattle.pmd.specs.declared.Shape.{Shape}
-use Rattle.pmd.specs.Shapes.{ShapeFor}
+use Rattle.pmd.specs.Shapes.{shapeOf}
 use Rattle.pmd.proofs.shape_of.Statement.{statement}
 use Rattle.pmd.proofs.shape_of.Tie as tie
 
-found : {kind other : Kind} {shape : Shape} → kind ≡ other → ShapeFor other shape → ShapeFor kind shape
-found {kind} {other} {shape} e h = subst (λ (k : Kind). ShapeFor k shape) (sym e) h
+found : {kind other : Kind} {shape : Shape} → kind ≡ other → shape ≡ shapeOf other → shape ≡ shapeOf kind
+found e h = h ∙ ap shapeOf (sym e)
 
 pub shape-of-spec : {M : Type 1} → statement M
 shape-of-spec =

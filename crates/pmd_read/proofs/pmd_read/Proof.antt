@@ -4,6 +4,7 @@ use borrow.Author.Needs.{needs}
 use lib.ListN.{length}
 use Rattle.refusals.proofs.Lent.{refused-was}
 use Rattle.pmd.specs.Reading.{fieldsRead}
+use Rattle.pmd.proofs.Shapes.{ShapeFor, shape-for}
 use Rattle.pmd.proofs.Answers.{delivers-none}
 use Rattle.pmd_read.specs.ByShape.{readShape}
 use Rattle.pmd_read.proofs.Answers.{read-unknown, read-big, read-shape, counted-noroom, counted-roomy, counted-all}
@@ -17,11 +18,15 @@ start c = c .before .before .before
 abbrev begin : tie.After-count → tie.Start
 begin c = c .before .before .before .before .before .before .before .before .before
 
+-- the shape is that of the kind
+held : (d : tie.After-shape-of) → ShapeFor (d .before .before .before .known .given .0 .0) (d .shape-of .result)
+held d = shape-for (d .shape-of .ensures)
+
 -- the value was counted as its kind asks
 by-shape : (c : tie.After-count) → fieldsRead (begin c .args .kind) (begin c .args .value .now) ≡ readShape (c .before .shape-of .result) (begin c .args .value .now)
 by-shape c =
     let a = begin c .args in
-    read-shape (a .kind) (a .value .now) (c .before .before .before .before .before .before .kind-of .ensures) (c .before .before .before .before .known .given .1) (c .before .before .if1 .left) (c .before .shape-of .ensures)
+    read-shape (a .kind) (a .value .now) (c .before .before .before .before .before .before .kind-of .ensures) (c .before .before .before .before .known .given .1) (c .before .before .if1 .left) (held (c .before))
 
 returns : tie.Need-returns
 returns c = let h = c .before .before .before in delivers-none (read-unknown (start h .args .kind) (start h .args .value .now) (h .kind-of .ensures) (c .before .enum-told .given .1)) (c .refused .ensures)
@@ -30,6 +35,9 @@ returns-2 : tie.Need-returns-2
 returns-2 c =
     let h = c .before .before .before .before .before in
     delivers-none (read-big (start h .args .kind) (start h .args .value .now) (h .kind-of .ensures) (c .before .before .before .known .given .1) (c .before .if1 .taken)) (c .refused2 .ensures)
+
+count-requires : tie.Need-count-requires
+count-requires c κs = (c .before .if1 .left, held c .walkable)
 
 returns-3 : tie.Need-returns-3
 returns-3 c =
@@ -43,7 +51,7 @@ returns-4 c = let h = c .before .before .before .before .before in counted-noroo
 fill-requires : tie.Need-fill-requires
 fill-requires c κs =
     let h = c .before .before .before .before .before in
-    (h .before .before .if1 .left, (h .before .shape-of .ensures .walkable, counted-roomy (by-shape h) (h .count .ensures) (c .before .before .before .counted .given .1) _ (c .before .if2 .left)))
+    (h .before .before .if1 .left, (held (h .before) .walkable, counted-roomy (by-shape h) (h .count .ensures) (c .before .before .before .counted .given .1) _ (c .before .if2 .left)))
 
 returns-5 : tie.Need-returns-5
 returns-5 c =
@@ -62,7 +70,7 @@ pmd-read-spec =
     (λ c κs. search needs)
     returns-2
     (λ c κs. search needs)
-    (λ c κs. search needs)
+    count-requires
     (λ c. search needs)
     (λ c. search needs)
     returns-3

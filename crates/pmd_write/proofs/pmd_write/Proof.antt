@@ -5,23 +5,32 @@ use borrow.Author.Needs.{needs}
 use lib.ListN.{length}
 use borrow.Author.Tests.{ltb-true, ltb-false}
 use Rattle.pmd.specs.Writing.{fieldsWritten}
+use Rattle.pmd.proofs.Shapes.{ShapeFor, shape-for}
 use Rattle.pmd.proofs.Answers.{delivers-none}
 use Rattle.pmd_write.specs.ByShape.{writeShape}
 use Rattle.pmd_write.proofs.Answers.{limited, write-unknown, write-shape, weighed-refused, weighed-big, weighed-noroom, weighed-roomy, weighed-all}
 use Rattle.pmd_write.proofs.pmd_write.Statement.{statement}
 use Rattle.pmd_write.proofs.pmd_write.Tie as tie
 
--- where the call began, as the numbers were weighed; they were weighed as their kind asks
+-- where the call began, as the numbers were weighed
 abbrev start : tie.After-weigh → tie.Start
 start c = c .before .before .before .before .before .before .before .before
 
+-- the shape is that of the kind
+held : (d : tie.After-shape-of) → ShapeFor (d .before .before .known .given .0 .0) (d .shape-of .result)
+held d = shape-for (d .shape-of .ensures)
+
+-- they were weighed as their kind asks
 by-shape : (c : tie.After-weigh) → fieldsWritten (start c .args .kind) (start c .args .numbers .now) ≡ limited (writeShape (c .before .shape-of .result) (start c .args .numbers .now))
-by-shape c = write-shape (start c .args .kind) (start c .args .numbers .now) (c .before .before .before .before .before .kind-of .ensures) (c .before .before .before .known .given .1) (c .before .shape-of .ensures)
+by-shape c = write-shape (start c .args .kind) (start c .args .numbers .now) (c .before .before .before .before .before .kind-of .ensures) (c .before .before .before .known .given .1) (held (c .before))
 
 returns : tie.Need-returns
 returns c =
     let a = c .before .before .before .before .before .before .args in
     delivers-none (write-unknown (a .kind) (a .numbers .now) (c .before .before .before .kind-of .ensures) (c .before .enum-told .given .1)) (c .refused .ensures)
+
+weigh-requires : tie.Need-weigh-requires
+weigh-requires c κs = held c .walkable
 
 returns-2 : tie.Need-returns-2
 returns-2 c =
@@ -42,7 +51,7 @@ returns-3 c =
 put-requires : tie.Need-put-requires
 put-requires c κs =
     let h = c .before .before .before .before .before .before in
-    (h .before .shape-of .ensures .walkable, weighed-roomy (h .before .shape-of .result) (start h .args .numbers .now) (h .weigh .ensures) (c .before .before .before .before .weighed .given .1) (c .before .before .if1 .left) (length (start h .args .out .now)) (ltb-false _ _ (c .before .if2 .left)))
+    (held (h .before) .walkable, weighed-roomy (h .before .shape-of .result) (start h .args .numbers .now) (h .weigh .ensures) (c .before .before .before .before .weighed .given .1) (c .before .before .if1 .left) (length (start h .args .out .now)) (ltb-false _ _ (c .before .if2 .left)))
 
 returns-4 : tie.Need-returns-4
 returns-4 c =
@@ -59,7 +68,7 @@ pmd-write-spec =
     (λ c κs. search needs)
     returns
     (λ c κs. search needs)
-    (λ c κs. search needs)
+    weigh-requires
     (λ c. search needs)
     (λ c. search needs)
     returns-2
