@@ -3,3 +3,4 @@ pub mod Cells
 pub mod Growing
 pub mod Noting
 pub mod Naming
+pub mod One

@@ -2,11 +2,12 @@
 use mathlib.Core.Path.{_≡_}
 use mathlib.Core.List.{List, [], _∷_, map}
 use mathlib.Core.Bool.{Bool, false, cond}
-use Prim.Native.Nat.{ℕ, _+_, _<_, _≤_}
+use Prim.Native.Nat.{ℕ, _+_, _*_, _<_, _≤_}
 use lib.Dec.{eqb}
-use lib.ListN.{length, take, drop, getD}
+use lib.ListN.{length, take, drop, getD, set}
 use Rattle.runs.specs.Same.{among}
-use Rattle.runs.specs.Cells.{cells}
+use Rattle.runs.specs.Over.{over}
+use Rattle.runs.specs.Cells.{cells, numbersOf}
 use Rattle.pack.specs.declared.Name.{Name}
 use Rattle.pack.specs.declared.Name.the-variants as N
 use Rattle.pack.specs.declared.Item.{Item}
@@ -52,7 +53,13 @@ keptLabels seen (M.Gone ∷ r) = keptLabels seen r
 keptLabels seen (M.Number t ∷ r) = keptLabels seen r
 keptLabels seen (M.Label i ∷ r) = cond (among i seen) (keptLabels seen r) (i ∷ keptLabels (i ∷ seen) r)
 
--- the mark whose two numbers stand at `at`
+-- the two numbers of a mark: 0 for what goes, 1 and the number, 2 and the label
+unfoldable pub markNumbers : Mark → List ℕ
+markNumbers M.Gone = 0 ∷ 0 ∷ []
+markNumbers (M.Number t) = 1 ∷ t ∷ []
+markNumbers (M.Label i) = 2 ∷ i ∷ []
+
+-- and back: the mark whose two numbers stand at `at`
 unfoldable pub markAt : List ℕ → ℕ → Mark
 markAt s at = cond (eqb (getD s at 0) 1) (M.Number (getD s (at + 1) 0)) (cond (eqb (getD s at 0) 2) (M.Label (getD s (at + 1) 0)) M.Gone)
 
@@ -60,19 +67,28 @@ markAt s at = cond (eqb (getD s at 0) 1) (M.Number (getD s (at + 1) 0)) (cond (e
 abbrev pub marksIn : List ℕ → List Mark
 marksIn s = cells markAt 2 itemCap s
 
--- the marks of the slots, the kept labels in order of first appearance and how many they are, and which of the numbers 64 to 127 are kept
+-- what putting a mark into the cell i promises: its numbers stand there and nothing else changes, and so of the marks
+pub record Puts (before : List ℕ) (i : ℕ) (mark : Mark) (after : List ℕ) : Type 0 where
+  pub numbers : after ≡ over before (2 * i) (markNumbers mark)
+  pub marks : marksIn after ≡ set (marksIn before) i mark
+
+-- the marks of the slots and the array of their numbers, the kept labels in order of first appearance and how many they are, and which of the
+-- numbers 64 to 127 are kept
 pub record Names : Type 0 where
   pub marks : List Mark
+  pub numbers : List ℕ
   pub order : List ℕ
   pub labels : ℕ
   pub taken : List Bool
 
--- what is noted of the marks: they themselves, the labels in order, and which numbers from 64 to 127 are taken
+-- what is noted of the marks: they themselves and their numbers, the labels in order, and which numbers from 64 to 127 are taken
 pub record Noted (ms : List Mark) (r : Names) : Type 0 where
   pub marks : r .marks ≡ padded itemCap M.Gone ms
+  pub numbers : r .numbers ≡ numbersOf markNumbers (padded itemCap M.Gone ms)
   pub order : r .order ≡ padded itemCap 0 (keptLabels [] ms)
   pub labels : r .labels ≡ length (keptLabels [] ms)
   pub taken : (n : ℕ) → n < 64 → getD (r .taken) n false ≡ among (64 + n) (keptNumbers ms)
+  pub wide : length (r .taken) ≡ 64
 
 -- a label stands at this place of the pack
 abbrev pub HasLabel : List ℕ → ℕ → Type 0

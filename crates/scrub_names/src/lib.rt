@@ -3,7 +3,7 @@ ghost use mathlib.Core.Path.{_≡_};
 ghost use mathlib.Core.Bool.{false};
 ghost use mathlib.Core.List.{[], _∷_};
 ghost use Prim.Native.Nat.{ℕ, _+_, _*_, _<_, _≤_};
-ghost use lib.ListN.{length, take, set, replicate};
+ghost use lib.ListN.{length, take, replicate};
 ghost use Rattle.runs.specs.Over.{over};
 ghost use Rattle.runs.specs.Those.{Each};
 ghost use Rattle.pack.specs.Fixed.{itemCap, mappingCap};
@@ -11,7 +11,7 @@ ghost use Rattle.pack.specs.Slots.{padded};
 ghost use Rattle.pack.specs.Fits.{NameFits, ItemFits, SlotsFit};
 ghost use Rattle.pack_slots.specs.Slots.{slotsIn};
 ghost use Rattle.scrub_sheet.specs.Asked.{asks, EntriesThere, Short};
-ghost use Rattle.scrub_names.specs.Marks.{flagsOf, markName, markItem, marksOf, markAt, marksIn, Noted, HasLabel};
+ghost use Rattle.scrub_names.specs.Marks.{flagsOf, markName, markItem, marksOf, markAt, marksIn, Puts, Noted, HasLabel};
 ghost use Rattle.scrub_names.specs.Given.{clearAt, given, byIndex};
 use pack::Item;
 use pack::Name;
@@ -87,10 +87,10 @@ fn put_two(out: &mut [u32], at: usize, first: u32, second: u32)
     out[at + 1] = second;
 }
 
-// Puts a mark into the cell `i`: 0 for what goes, 1 and the number, 2 and the label.
+// Puts a mark into the cell `i`.
 fn put_mark(marks: &mut [u32; 128], i: usize, mark: Mark)
     requires { ⌜ i < itemCap ⌝ }
-    ensures { λ _. ⌜ marksIn (now (marks .exit)) ≡ set (marksIn (now (marks .entry))) i mark ⌝ }
+    ensures { λ _. ⌜ Puts (now (marks .entry)) i mark (now (marks .exit)) ⌝ }
 {
     match mark {
         Mark::Gone => put_two(marks, 2 * i, 0, 0),
@@ -129,7 +129,7 @@ pub fn note(
     taken: &mut [bool; 64],
 ) -> usize
     requires { ⌜ (count ≤ 64) × SlotsFit (take count (slotsIn (now slots))) × EntriesThere (now s) asked × (now marks ≡ replicate 128 0) × (now order ≡ replicate 64 0) × (now taken ≡ replicate 64 false) ⌝ }
-    ensures { λ r. ⌜ Noted (marksOf (now (flags .entry)) (asks (now (s .entry)) asked) (take count (slotsIn (now (slots .entry))))) (record { marks = marksIn (now (marks .exit)); order = now (order .exit); labels = r; taken = now (taken .exit) }) ⌝ }
+    ensures { λ r. ⌜ Noted (marksOf (now (flags .entry)) (asks (now (s .entry)) asked) (take count (slotsIn (now (slots .entry))))) (record { marks = marksIn (now (marks .exit)); numbers = now (marks .exit); order = now (order .exit); labels = r; taken = now (taken .exit) }) ⌝ }
 {
     let short = scrub_sheet::short_numbers(s, asked);
     let mut seen = [false; 32];

@@ -17,15 +17,14 @@ use Rattle.pack.proofs.Slots.{slot-fits}
 use Rattle.pack_slots.specs.Slots.{slotsIn}
 use Rattle.pack_slots.proofs.Laws.{length-in, slot-in}
 use Rattle.scrub_sheet.specs.Asked.{asks}
-use Rattle.scrub_names.specs.Marks.{markItem, marksIn}
-use Rattle.scrub_names.proofs.Cells.{marks-none}
+use Rattle.scrub_names.specs.Marks.{markItem}
 use Rattle.scrub_names.proofs.Noting.{Noting, noting-begins, noting-here, noting-few, noting-step, noting-ends, note-gone, note-outside, note-inside, note-seen, note-new}
 use Rattle.scrub_names.proofs.Naming.{mark-fits}
 use Rattle.scrub_names.proofs.note.Statement.{statement}
 use Rattle.scrub_names.proofs.note.Tie as tie
 
 abbrev Inv-loop : tie.InvT-loop
-Inv-loop s asked flags slots count marks₀ order₀ taken₀ short seen₀ labels₀ i₀ marks order taken seen labels i = Noting (λ (x : Slot). markItem flags (asks s asked) (x .item)) (take count (slotsIn slots)) (marksIn marks) order labels taken seen i
+Inv-loop s asked flags slots count marks₀ order₀ taken₀ short seen₀ labels₀ i₀ marks order taken seen labels i = Noting (λ (x : Slot). markItem flags (asks s asked) (x .item)) (take count (slotsIn slots)) marks order labels taken seen i
 
 abbrev μ-loop : tie.MeasureT-loop
 μ-loop s asked flags slots count marks₀ order₀ taken₀ short seen₀ labels₀ i₀ marks order taken seen labels i = count - i
@@ -33,7 +32,7 @@ abbrev μ-loop : tie.MeasureT-loop
 loop-holds : tie.Need-loop-holds Inv-loop μ-loop
 loop-holds c =
     let p = c .before .before .pre in
-    noting-begins _ _ (ap marksIn (p .3) ∙ marks-none) (p .4) (p .5)
+    noting-begins _ _ (p .3) (p .4) (p .5)
 
 -- where the call began, and the turn of the loop in which a mark was put
 abbrev start : tie.In-loop Inv-loop μ-loop → tie.Start Inv-loop μ-loop
@@ -98,8 +97,8 @@ loop-again : tie.Need-loop-again Inv-loop μ-loop
 loop-again c =
     let m = c .before .before in
     let l = (turn m) .before .loop in
-    noting-step blank _ (inside (turn m)) (value m) (m .put-mark .ensures)
-    (note-gone (l .inv .notes) (l .i) (noting-here (l .inv)) (room (turn m)) _ (c .enum-told .given .1))
+    noting-step blank _ (inside (turn m)) (value m)
+    (note-gone (l .inv .notes) (l .i) (noting-here (l .inv)) (room (turn m)) _ (m .put-mark .ensures) (c .enum-told .given .1))
 
 sub-taken : tie.Need-sub-taken Inv-loop μ-loop
 sub-taken c = c .before .if1 .taken
@@ -111,22 +110,22 @@ loop-again-2 : tie.Need-loop-again-2 Inv-loop μ-loop
 loop-again-2 c =
     let m = c .before .before .before .before .before in
     let l = (turn m) .before .loop in
-    noting-step blank _ (inside (turn m)) (value m) (m .put-mark .ensures)
-    (note-inside (l .inv .notes) (l .i) (noting-here (l .inv)) (room (turn m)) _ _ (c .before .before .before .mark .given .1) (c .before .if1 .taken) (c .if2 .taken))
+    noting-step blank _ (inside (turn m)) (value m)
+    (note-inside (l .inv .notes) (l .i) (noting-here (l .inv)) (room (turn m)) _ (m .put-mark .ensures) _ (c .before .before .before .mark .given .1) (c .before .if1 .taken) (c .if2 .taken))
 
 loop-again-3 : tie.Need-loop-again-3 Inv-loop μ-loop
 loop-again-3 c =
     let m = c .before .before .before .before .before in
     let l = (turn m) .before .loop in
-    noting-step blank _ (inside (turn m)) (value m) (m .put-mark .ensures)
-    (note-outside (l .inv .notes) (l .i) (noting-here (l .inv)) (room (turn m)) _ _ (c .before .before .before .mark .given .1) (inr (c .if2 .left)))
+    noting-step blank _ (inside (turn m)) (value m)
+    (note-outside (l .inv .notes) (l .i) (noting-here (l .inv)) (room (turn m)) _ (m .put-mark .ensures) _ (c .before .before .before .mark .given .1) (inr (c .if2 .left)))
 
 loop-again-4 : tie.Need-loop-again-4 Inv-loop μ-loop
 loop-again-4 c =
     let m = c .before .before .before .before in
     let l = (turn m) .before .loop in
-    noting-step blank _ (inside (turn m)) (value m) (m .put-mark .ensures)
-    (note-outside (l .inv .notes) (l .i) (noting-here (l .inv)) (room (turn m)) _ _ (c .before .before .mark .given .1) (inl (c .if1 .left)))
+    noting-step blank _ (inside (turn m)) (value m)
+    (note-outside (l .inv .notes) (l .i) (noting-here (l .inv)) (room (turn m)) _ (m .put-mark .ensures) _ (c .before .before .mark .given .1) (inl (c .if1 .left)))
 
 array-read-if3 : tie.Need-array-read-if3 Inv-loop μ-loop
 array-read-if3 c = low (c .before .before .before) _ (c .before .mark2 .given .1)
@@ -138,15 +137,15 @@ loop-again-5 : tie.Need-loop-again-5 Inv-loop μ-loop
 loop-again-5 c =
     let m = c .before .before .before .before in
     let l = (turn m) .before .loop in
-    noting-step blank _ (inside (turn m)) (value m) (m .put-mark .ensures)
-    (note-new (l .inv .notes) (l .i) (noting-here (l .inv)) (room (turn m)) _ _ (c .before .before .mark2 .given .1) (low m _ (c .before .before .mark2 .given .1)) (not-true _ (c .if3 .taken)))
+    noting-step blank _ (inside (turn m)) (value m)
+    (note-new (l .inv .notes) (l .i) (noting-here (l .inv)) (room (turn m)) _ (m .put-mark .ensures) _ (c .before .before .mark2 .given .1) (low m _ (c .before .before .mark2 .given .1)) (not-true _ (c .if3 .taken)))
 
 loop-again-6 : tie.Need-loop-again-6 Inv-loop μ-loop
 loop-again-6 c =
     let m = c .before .before .before .before in
     let l = (turn m) .before .loop in
-    noting-step blank _ (inside (turn m)) (value m) (m .put-mark .ensures)
-    (note-seen (l .inv .notes) (l .i) (noting-here (l .inv)) (room (turn m)) _ _ (c .before .before .mark2 .given .1) (low m _ (c .before .before .mark2 .given .1)) (not-false _ (c .if3 .left)))
+    noting-step blank _ (inside (turn m)) (value m)
+    (note-seen (l .inv .notes) (l .i) (noting-here (l .inv)) (room (turn m)) _ (m .put-mark .ensures) _ (c .before .before .mark2 .given .1) (low m _ (c .before .before .mark2 .given .1)) (not-false _ (c .if3 .left)))
 
 returns : tie.Need-returns Inv-loop μ-loop
 returns c = noting-ends (c .before .loop .inv) (omega (arith, long (c .before .before .before .before)))

@@ -1,22 +1,22 @@
 -- `scrub_names::put_mark` meets its contract. By the mark.
 use borrow.Author.Needs.{needs}
-use mathlib.Core.Path.{refl, sym}
-use Rattle.scrub_names.specs.Marks.{markAt}
+use mathlib.Core.Path.{sym, ap}
+use Rattle.scrub_names.specs.Marks.{markNumbers}
 use Rattle.scrub_names.proofs.Cells.{marks-put}
 use Rattle.scrub_names.proofs.put_mark.Statement.{statement}
 use Rattle.scrub_names.proofs.put_mark.Tie as tie
 
 returns : tie.Need-returns
-unfolding markAt
-returns c = marks-put _ (search needs) _ (c .before .before .before .before .pre) _ refl (sym (c .before .before .enum-told .given .1)) (c .put-two .ensures)
+unfolding markNumbers
+returns c = marks-put _ (search needs) _ (c .before .before .before .before .pre) _ (sym (ap markNumbers (c .before .before .enum-told .given .1))) (c .put-two .ensures)
 
 returns-2 : tie.Need-returns-2
-unfolding markAt
-returns-2 c = marks-put _ (search needs) _ (c .before .before .before .before .before .pre) _ refl (sym (c .before .before .before .mark .given .1)) (c .put-two2 .ensures)
+unfolding markNumbers
+returns-2 c = marks-put _ (search needs) _ (c .before .before .before .before .before .pre) _ (sym (ap markNumbers (c .before .before .before .mark .given .1))) (c .put-two2 .ensures)
 
 returns-3 : tie.Need-returns-3
-unfolding markAt
-returns-3 c = marks-put _ (search needs) _ (c .before .before .before .before .before .pre) _ refl (sym (c .before .before .before .mark2 .given .1)) (c .put-two3 .ensures)
+unfolding markNumbers
+returns-3 c = marks-put _ (search needs) _ (c .before .before .before .before .before .pre) _ (sym (ap markNumbers (c .before .before .before .mark2 .given .1))) (c .put-two3 .ensures)
 
 pub put-mark-spec : {M : Type 1} → statement M
 put-mark-spec =
