@@ -89,14 +89,14 @@ module _ (s : List ℕ) (bytes : Bytes s) {found : Found} {stood : List ℕ} {it
 
     pub prepared : (tags index ops : List ℕ) (bytes size : ℕ) → tags ≡ padded itemCap 0 (given (nm .taken) 0 (nm .labels))
         → index ≡ byIndex (take (nm .labels) (nm .order)) tags
-        → Plans index (take (found .count) items) (nm .marks) (record { ops = take (found .count) (opsIn ops); size = bytes })
+        → Plans index (take (found .count) items) (nm .marks) (record { ops = take (found .count) (opsIn ops); numbers = ops; size = bytes })
         → (size ≡ configSize (found .offset) (nm .labels)) × (size < 2000) → (q : Read) → reading s ≡ fine q
         → Ready (kept sh (meant s q)) s stood (nm .order) tags ops (record { offset = found .offset; labels = nm .labels; writes = found .count; size = size + bytes + 6 })
     prepared tags index ops n size t i p z q e =
         let same : r ≡ q = let x = g .is in cc in
         let laid : ℕ → Laid = λ o. record { offset = o; labels = nm .labels; writes = found .count; size = size + n + 6 } in
         let done = ready s bytes r (g .is) sh nm noted-is tags index t i ops (found .count) n
-        (subst (λ (x : List Slot). Plans index x (nm .marks) (record { ops = take (found .count) (opsIn ops); size = n })) items-are p) size
+        (subst (λ (x : List Slot). Plans index x (nm .marks) (record { ops = take (found .count) (opsIn ops); numbers = ops; size = n })) items-are p) size
         (z .0 ∙ ap (λ (o : ℕ). configSize o (nm .labels)) (g .starts), z .1) few-slots in
         subst (λ (x : Read). Ready (kept sh (meant s x)) s stood (nm .order) tags ops (laid (found .offset))) same
         (subst (λ (o : ℕ). Ready (kept sh (meant s r)) s stood (nm .order) tags ops (laid o)) (sym (g .starts))

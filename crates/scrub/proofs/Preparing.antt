@@ -134,7 +134,7 @@ module _ (s : List ℕ) (valid : Bytes s) (r : Read) (h : reading s ≡ fine r) 
 
   module _ (nm : Names) (noted : Noted marks nm) (tags index : List ℕ) (tagged : tags ≡ padded itemCap 0 (given (nm .taken) 0 (nm .labels)))
       (placed : index ≡ byIndex (take (nm .labels) (nm .order)) tags) (ops : List ℕ) (n : ℕ) (bytes : ℕ)
-      (plans : Plans index rows (nm .marks) (record { ops = take n (opsIn ops); size = bytes })) where
+      (plans : Plans index rows (nm .marks) (record { ops = take n (opsIn ops); numbers = ops; size = bytes })) where
     abbrev writes : List Op
     writes = take n (opsIn ops)
 

@@ -5,16 +5,19 @@ use mathlib.Core.Bool.{cond}
 use Prim.Native.Nat.{ℕ, _+_, _<_, _≤_}
 use lib.Dec.{eqb}
 use lib.ListN.{length, getD}
+use Rattle.runs.specs.Cells.{numbersOf}
 use Rattle.numbers.specs.Tags.{tagBytes}
 use Rattle.numbers.specs.Lengths.{lengthBytes}
 use Rattle.pack.specs.declared.Item.{Item}
 use Rattle.pack.specs.declared.Item.the-variants as I
 use Rattle.pack.specs.declared.Slot.{Slot}
-use Rattle.pack.specs.Fixed.{packCap, mappingCap}
+use Rattle.pack.specs.Fixed.{packCap, mappingCap, itemCap}
+use Rattle.pack.specs.Slots.{padded}
 use Rattle.scrub_names.specs.declared.Mark.{Mark}
 use Rattle.scrub_names.specs.declared.Mark.the-variants as M
 use Rattle.scrub_write.specs.declared.Op.the-variants.{Skip, Put, Open}
 use Rattle.scrub_write.specs.declared.Op.{Op}
+use Rattle.scrub_write.specs.Ops.{opNumbers}
 use Rattle.scrub_plan.specs.declared.SlotPlan.{SlotPlan}
 
 -- the tag that a slot with this mark is written with, 0 if it goes; `index` has the new tags of labels
@@ -55,14 +58,16 @@ planned index [] ms = record { inner = 0; total = 0; ops = [] }
 planned index (x ∷ xs) [] = record { inner = 0; total = 0; ops = [] }
 planned index (x ∷ xs) (m ∷ ms) = joined (slotPlan (x .item) (tagOf index m) ((planned index xs ms) .inner)) (planned index xs ms)
 
--- the writes in order, and how many bytes they make
+-- the writes in order, the array of their numbers, and how many bytes they make
 pub record Plan : Type 0 where
   pub ops : List Op
+  pub numbers : List ℕ
   pub size : ℕ
 
--- what the plan of these slots is
+-- what the plan of these slots is; behind their writes the array holds none
 pub record Plans (index : List ℕ) (xs : List Slot) (ms : List Mark) (r : Plan) : Type 0 where
   pub ops : r .ops ≡ (planned index xs ms) .ops
+  pub numbers : r .numbers ≡ numbersOf opNumbers (padded itemCap Skip ((planned index xs ms) .ops))
   pub size : r .size ≡ (planned index xs ms) .total
   pub small : r .size < 3000000
 

@@ -117,7 +117,7 @@ pub fn plan_slots(
 ) -> u32
     requires { ⌜ (count ≤ 64) × Each SlotSmall (take count (slotsIn (now slots))) × Each MarkFits (marksIn (now marks)) × (now ops ≡ replicate 256 0) ⌝ }
     ensures { λ r. ⌜ Plans (now (index .entry)) (take count (slotsIn (now (slots .entry)))) (marksIn (now (marks .entry)))
-        (record { ops = take count (opsIn (now (ops .exit))); size = r }) ⌝ }
+        (record { ops = take count (opsIn (now (ops .exit))); numbers = now (ops .exit); size = r }) ⌝ }
 {
     let mut inner: u32 = 0;
     let mut size: u32 = 0;

@@ -1,9 +1,11 @@
 -- Inner. The writes of a scrub, one after the other, and their bytes.
+use mathlib.Core.Path.{_≡_}
 use mathlib.Core.List.{List, [], _∷_, _++_}
 use mathlib.Core.Bool.{cond}
-use Prim.Native.Nat.{ℕ, _+_, _<_, _≤_, _^_, _%_}
+use Prim.Native.Nat.{ℕ, _+_, _*_, _<_, _≤_, _^_, _%_}
 use lib.Dec.{eqb}
-use lib.ListN.{length, take, drop, getD}
+use lib.ListN.{length, take, drop, getD, set}
+use Rattle.runs.specs.Over.{over}
 use Rattle.runs.specs.Cells.{cells}
 use Rattle.runs.specs.Digits.{digits}
 use Rattle.numbers.specs.Tags.{tagBytes}
@@ -27,7 +29,13 @@ OpFits s Skip = Unit
 OpFits s (Put t v l) = (t < 128 ^ 4) × (v + l ≤ length s)
 OpFits s (Open n o d) = 4 + n < 2 ^ 32
 
--- the write whose four numbers stand at `at`
+-- the four numbers of a write: 0 for nothing, 1 and a payload's, 2 and a Sync's
+unfoldable pub opNumbers : Op → List ℕ
+opNumbers Skip = 0 ∷ 0 ∷ 0 ∷ 0 ∷ []
+opNumbers (Put t v l) = 1 ∷ t ∷ v ∷ l ∷ []
+opNumbers (Open n o d) = 2 ∷ n ∷ o ∷ d ∷ []
+
+-- and back: the write whose four numbers stand at `at`
 unfoldable pub opAt : List ℕ → ℕ → Op
 opAt s at =
     cond (eqb (getD s at 0) 1)
@@ -37,3 +45,8 @@ opAt s at =
 -- the writes of an array
 abbrev pub opsIn : List ℕ → List Op
 opsIn s = cells opAt 4 64 s
+
+-- what putting a write into the cell i promises: its numbers stand there and nothing else changes, and so of the writes
+pub record Puts (before : List ℕ) (i : ℕ) (op : Op) (after : List ℕ) : Type 0 where
+  pub numbers : after ≡ over before (4 * i) (opNumbers op)
+  pub writes : opsIn after ≡ set (opsIn before) i op

@@ -13,15 +13,13 @@ use Rattle.pack_slots.proofs.Laws.{length-in, slot-in}
 use Rattle.scrub_names.specs.declared.Mark.the-variants as M
 use Rattle.scrub_names.specs.Marks.{marksIn}
 use Rattle.scrub_names.proofs.Cells.{length-marks, mark-in}
-use Rattle.scrub_write.specs.Ops.{opsIn}
-use Rattle.scrub_write.proofs.Cells.{ops-none}
 use Rattle.scrub_plan.specs.Planned.{tagOf, slotPlan, SlotSmall, MarkFits}
 use Rattle.scrub_plan.proofs.Going.{Going, going-begins, going-ends, going-on}
 use Rattle.scrub_plan.proofs.plan_slots.Statement.{statement}
 use Rattle.scrub_plan.proofs.plan_slots.Tie as tie
 
 abbrev Inv-loop : tie.InvT-loop
-Inv-loop slots marks index count ops₀ inner₀ size₀ i₀ ops inner size i = Going index (take count (slotsIn slots)) (marksIn marks) (opsIn ops) inner size i
+Inv-loop slots marks index count ops₀ inner₀ size₀ i₀ ops inner size i = Going index (take count (slotsIn slots)) (marksIn marks) ops inner size i
 
 abbrev μ-loop : tie.MeasureT-loop
 μ-loop slots marks index count ops₀ inner₀ size₀ i₀ ops inner size i = i
@@ -60,7 +58,7 @@ loop-holds : tie.Need-loop-holds Inv-loop μ-loop
 loop-holds c =
     let n = counted c in
     let h = c .pre .0 in
-    rw (c .pre .3, ops-none) (going-begins _ _ _ _ (sym n) (omega arith) (length-marks _))
+    rw (c .pre .3) (going-begins _ _ _ _ (sym n) (omega arith) (length-marks _))
 
 item-requires : tie.Need-item-requires Inv-loop μ-loop
 item-requires c κs = inside c .1
