@@ -2,3 +2,4 @@ pub mod Runs
 pub mod Header
 pub mod Asking
 pub mod Short
+pub mod One
