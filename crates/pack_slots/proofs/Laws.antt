@@ -15,7 +15,7 @@ use Rattle.pack.specs.declared.Payload.{Payload}
 use Rattle.pack.specs.declared.Item.{Item}
 use Rattle.pack.specs.declared.Item.the-variants.{Single, Sync, Inner}
 use Rattle.pack.specs.declared.Slot.{Slot}
-use Rattle.pack_slots.specs.Slots.{nameForm, nameNumber, payloadNumbers, itemNumbers, slotName, slotPayload, slotItem, slotAt, slotsIn, ItemNarrow}
+use Rattle.pack_slots.specs.Slots.{nameForm, nameNumber, payloadNumbers, itemNumbers, slotName, slotPayload, slotItem, slotAt, slotsIn, ItemNarrow, Slotted}
 
 pub length-in : (s : List ℕ) → length (slotsIn s) ≡ 64
 length-in s = length-cells slotAt 8 itemCap s
@@ -61,11 +61,14 @@ item-eight (Inner x) = refl
 item-eight (Sync h) = refl
 
 -- a store of an item's numbers puts it into its slot, and no other changes
-pub slots-put : (s : List ℕ) → length s ≡ 512 → (n : ℕ) → n < 64 → (x : Item) → ItemNarrow x
-    → slotsIn (over s (8 * n) (itemNumbers x)) ≡ set (slotsIn s) n (slot x)
-slots-put s long n h x narrow =
-    cells-put slotAt 8 near itemCap s (omega (arith, long)) n h (itemNumbers x) (item-eight x) blank
-    ∙ ap (λ (y : Item). set (slotsIn s) n (slot y)) (item-back x narrow)
+pub slotted : (s : List ℕ) → length s ≡ 512 → (n : ℕ) → n < 64 → (x : Item) → ItemNarrow x → {after : List ℕ} → after ≡ over s (8 * n) (itemNumbers x) → Slotted s n x after
+slotted s long n h x narrow e = record {
+  numbers = e;
+  slots =
+      ap slotsIn e
+      ∙ cells-put slotAt 8 near itemCap s (omega (arith, long)) n h (itemNumbers x) (item-eight x) blank
+      ∙ ap (λ (y : Item). set (slotsIn s) n (slot y)) (item-back x narrow);
+}
 
 -- AN EMPTY ARRAY
 

@@ -1,10 +1,12 @@
 -- Inner. The slots of a reading as numbers, eight to a slot.
+use mathlib.Core.Path.{_≡_}
 use mathlib.Core.List.{List, [], _∷_}
 use mathlib.Core.Bool.{cond}
-use Prim.Native.Nat.{ℕ, _+_, _<_, _%_}
+use Prim.Native.Nat.{ℕ, _+_, _*_, _<_, _%_}
 use lib.Dec.{eqb}
-use lib.ListN.{getD}
+use lib.ListN.{getD, set}
 use Rattle.runs.specs.Cells.{cells}
+use Rattle.runs.specs.Over.{over}
 use Rattle.pack.specs.Fixed.{itemCap}
 use Rattle.pack.specs.Slots.{slot}
 use Rattle.pack.specs.declared.Name.{Name}
@@ -75,3 +77,9 @@ abbrev pub ItemNarrow : Item → Type 0
 ItemNarrow (Single x) = Unit
 ItemNarrow (Inner x) = Unit
 ItemNarrow (Sync h) = (h .offset < 65536) × (h .duration < 65536)
+
+-- what a store of an item into the slot n promises: its numbers stand there and no other number changes, so the array holds the slots that it held, with
+-- the item in that one
+pub record Slotted (before : List ℕ) (n : ℕ) (x : Item) (after : List ℕ) : Type 0 where
+  pub numbers : after ≡ over before (8 * n) (itemNumbers x)
+  pub slots : slotsIn after ≡ set (slotsIn before) n (slot x)

@@ -1,11 +1,10 @@
 // The slots of a reading as numbers in a lent array, eight to a slot. An array of numbers is lent; one of structs would be copied wherever it goes.
 ghost use mathlib.Core.Path.{_≡_};
 ghost use Prim.Native.Nat.{_+_, _*_, _<_, _≤_};
-ghost use lib.ListN.{length, set};
+ghost use lib.ListN.{length};
 ghost use Rattle.runs.specs.Over.{Wrote};
 ghost use Rattle.pack.specs.Fixed.{itemCap};
-ghost use Rattle.pack.specs.Slots.{slot};
-ghost use Rattle.pack_slots.specs.Slots.{cellNumbers, payloadNumbers, itemNumbers, slotName, slotPayload, slotHead, slotItem, slotsIn, ItemNarrow};
+ghost use Rattle.pack_slots.specs.Slots.{cellNumbers, payloadNumbers, itemNumbers, slotName, slotPayload, slotHead, slotItem, ItemNarrow, Slotted};
 use pack::Head;
 use pack::Item;
 use pack::Name;
@@ -90,7 +89,7 @@ fn item_cell(item: Item) -> Cell
 // Puts an item into the slot `n`.
 pub fn put(slots: &mut [u32; 512], n: usize, item: Item)
     requires { ⌜ n < itemCap ⌝ }
-    ensures { λ _. ⌜ slotsIn (now (slots .exit)) ≡ set (slotsIn (now (slots .entry))) n (slot item) ⌝ }
+    ensures { λ _. ⌜ Slotted (now (slots .entry)) n item (now (slots .exit)) ⌝ }
 {
     let cell = item_cell(item);
     put_cell(slots, 8 * n, cell);

@@ -66,7 +66,7 @@ loop-less c = let w = inner-within _ _ _ _ _ _ (whole (c .before .before .before
 loop-again : tie.Need-loop-again Inv-loop μ-loop
 loop-again c =
     let f = c .before .before .before .before in
-    λ fuel h. filling-on (f .before .before .before .before .loop .inv fuel h) (f .before .before .before .loop-test .taken) (whole f) (c .before .before .payload .ensures) (c .put .ensures)
+    λ fuel h. filling-on (f .before .before .before .before .loop .inv fuel h) (f .before .before .before .loop-test .taken) (whole f) (c .before .before .payload .ensures) (c .put .ensures .slots)
 
 returns-2 : tie.Need-returns-2 Inv-loop μ-loop
 returns-2 c = filling-ends (c .before .loop .inv) (c .loop-test .left)

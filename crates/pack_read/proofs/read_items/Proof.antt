@@ -98,7 +98,7 @@ loop-again : tie.Need-loop-again Inv-loop μ-loop
 loop-again c =
     let p = c .before .before .before .before in
     let l = p .before .before .before in
-    listing-plain (l .before .loop .inv) (l .loop-test .taken) (plain p) (c .before .before .payload .ensures) (c .put .ensures)
+    listing-plain (l .before .loop .inv) (l .loop-test .taken) (plain p) (c .before .before .payload .ensures) (c .put .ensures .slots)
 
 add-base : tie.Need-add-base Inv-loop μ-loop
 add-base c = let f = open-fits _ _ _ _ _ (opens (c .before)) in omega (arith, f .0 .inside, f .1, c .before .before .before .before .before .before .before .pre .0)
@@ -171,7 +171,7 @@ loop-again-2 c =
     let k = c .before .before .before .before .before .before .before in
     let o = k .before .before .before .before in
     let l = o .before .before .before in
-    listing-sync (l .before .loop .inv) (l .loop-test .taken) (opens o) (k .read-inside .ensures) (c .before .before .before .before .before .inside2 .given .1) (c .before .before .before .if2 .left) (c .before .before .head .ensures) (c .put2 .ensures)
+    listing-sync (l .before .loop .inv) (l .loop-test .taken) (opens o) (k .read-inside .ensures) (c .before .before .before .before .before .inside2 .given .1) (c .before .before .before .if2 .left) (c .before .before .head .ensures) (c .put2 .ensures .slots)
 
 done-requires-2 : tie.Need-done-requires-2 Inv-loop μ-loop
 done-requires-2 c κs = c .before .before .before .pre .1 .few

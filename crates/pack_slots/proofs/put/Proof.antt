@@ -3,8 +3,7 @@ use mathlib.Core.Path.{ap, _∙_}
 use Prim.Native.Nat.{_*_}
 use borrow.Author.Needs.{needs}
 use Rattle.runs.specs.Over.{over}
-use Rattle.pack_slots.specs.Slots.{slotsIn}
-use Rattle.pack_slots.proofs.Laws.{slots-put}
+use Rattle.pack_slots.proofs.Laws.{slotted}
 use Rattle.pack_slots.proofs.put.Statement.{statement}
 use Rattle.pack_slots.proofs.put.Tie as tie
 
@@ -12,8 +11,7 @@ returns : tie.Need-returns
 returns c =
     let a = c .before .before .before .args in
     let r = c .before .before .item-cell .ensures in
-    ap slotsIn (c .put-cell .ensures .buffer ∙ ap (over (a .slots .now) (8 * a .n)) (r .0))
-    ∙ slots-put (a .slots .now) (search needs) (a .n) (c .before .before .before .pre) (a .item) (r .1)
+    slotted (a .slots .now) (search needs) (a .n) (c .before .before .before .pre) (a .item) (r .1) (c .put-cell .ensures .buffer ∙ ap (over (a .slots .now) (8 * a .n)) (r .0))
 
 pub put-spec : {M : Type 1} → statement M
 put-spec = tie.close (tie.spec (λ c κs. search needs) (λ c. search needs) (λ c κs. search needs) returns)
