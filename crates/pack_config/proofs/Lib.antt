@@ -3,3 +3,4 @@ pub mod Standing
 pub mod Tables
 mod Maps
 pub mod Openings
+pub mod One

@@ -26,8 +26,8 @@ use Rattle.labels.specs.Words.{digestOf}
 use Rattle.pack.specs.Fixed.{utilityLabels}
 use Rattle.pack.specs.Config.{Mapping, tagsOf, labelsOf, placesOf, clashes, mappingAt, mappingsFrom}
 use Rattle.pack.proofs.Turns.{mappings-end, mappings-turn, mapping-clash, mapping-fine}
-use Rattle.pack_config.specs.Tables.{Knows, standing, LabelsLie, Judging, Empty, Tables, MapsRead}
-use Rattle.pack_config.proofs.Tables.{knows-short, knows-long, tables-none, read-refused, column-is, column-filled, column-more}
+use Rattle.pack_config.specs.Tables.{Knows, standing, LabelsLie, Judging, Empty, Tables, MapsWalked}
+use Rattle.pack_config.proofs.Tables.{knows-short, knows-long, tables-none, walk-refused, column-is, column-filled, column-more}
 
 -- one label more
 listed-more : (l : List ℕ) (xs : List (List ℕ)) (x : List ℕ) → listed l (xs ++ (x ∷ [])) ≡ true → (listed l xs ≡ true) ⊎ (same x l ≡ true)
@@ -73,7 +73,6 @@ pub record Sofar (c : List ℕ) (place from k : ℕ) (tags places known marks : 
   pub stand : labelsOf ms ≡ standing c (placesOf ms)
   pub lie : LabelsLie c (placesOf ms)
   pub marked : Marked (labelsOf ms) marks
-  pub indexes : length known ≡ 128
   pub digests : length marks ≡ 251
   pub enough : length c ≤ at + fuel
   pub same : mappingsFrom fuel c place ms at ≡ mappingsFrom k c place [] from
@@ -88,7 +87,6 @@ sofar-begins c place from k {tags} {places} {known} e h = record {
   stand = refl;
   lie = tt;
   marked = marked-none;
-  indexes = ap length (e .index);
   digests = refl;
   enough = h;
   same = refl;
@@ -129,7 +127,7 @@ module _ {c : List ℕ} {place from k : ℕ} {tags places known marks : List ℕ
   clash-is : (t : ℕ) (label : List ℕ) {r : Bool} → r ≡ clashes (take n tags) (standing c (take n places)) t label → clashes (tagsOf (g .ms)) (labelsOf (g .ms)) t label ≡ r
   clash-is t label e = sym (e ∙ ap₂ (λ (a : List ℕ) (b : List (List ℕ)). clashes a b t label) tags-are labels-are)
 
-  pub sofar-ends : length c ≤ at → MapsRead (mappingsFrom k c place [] from) (A.Done n) tags places known
+  pub sofar-ends : length c ≤ at → MapsWalked (mappingsFrom k c place [] from) (A.Done n) tags places known
   sofar-ends h =
       let e : mappingsFrom k c place [] from ≡ fine (g .ms) = sym (g .same) ∙ mappings-end c place (g .ms) at (g .fuel) h in
       record {
@@ -144,9 +142,9 @@ module _ {c : List ℕ} {place from k : ℕ} {tags places known marks : List ℕ
 
     -- the mapping at this place is refused, whatever the tables hold then
     pub sofar-stops : {why : Refusal} {p : ℕ} {r : Answer} {us vs ws : List ℕ} → mappingAt c place (g .ms) at ≡ refused why p → r ≡ A.Refused why p
-        → MapsRead (mappingsFrom k c place [] from) r us vs ws
+        → MapsWalked (mappingsFrom k c place [] from) r us vs ws
     unfolding andThen
-    sofar-stops e q = read-refused (sym (g .same) ∙ turn e) q
+    sofar-stops e q = walk-refused (sym (g .same) ∙ turn e) q
 
     module _ (b : n < 32) where
       pub room : length (g .ms) < 32
@@ -177,6 +175,7 @@ module _ {c : List ℕ} {place from k : ℕ} {tags places known marks : List ℕ
                 tagged = column-more (g .ms) (λ (q : Mapping). q .tag) (g .tables .tagged) (g .long) new b;
                 placed = column-more (g .ms) (λ (q : Mapping). q .place) (g .tables .placed) (g .long) new b;
                 index = subst (λ (l : List ℕ). Knows l ws) (sym (map-append (λ (q : Mapping). q .tag) (g .ms) (new ∷ []))) w;
+                indexes = v;
                 few = omega (arith, length-append (g .ms) (new ∷ []), g .long);
               };
               stand =
@@ -187,7 +186,6 @@ module _ {c : List ℕ} {place from k : ℕ} {tags places known marks : List ℕ
               marked =
                   subst (λ (l : List (List ℕ)). Marked l (set marks x 1)) (sym (map-append (λ (q : Mapping). q .stands) (g .ms) (new ∷ [])))
                   (marked-more (labelsOf (g .ms)) marks (take 16 (drop m c)) x y (omega (arith, g .digests)) (g .marked));
-              indexes = v;
               digests = length-set marks x 1 ∙ g .digests;
               enough = omega (arith, g .enough);
               same = sym (turn (mapping-fine c place (g .ms) at room t m e d (stood i))) ∙ g .same;
@@ -196,11 +194,11 @@ module _ {c : List ℕ} {place from k : ℕ} {tags places known marks : List ℕ
         pub sofar-known : {x : ℕ} → r ≡ false → x ≡ digestOf (take 16 (drop m c)) → x < 251 → t < 128
             → Sofar c place from k (set tags n t) (set places n m) (set known t (n + 1)) (set marks x 1) (n + 1) (m + 16)
         sofar-known i y z l =
-            more i y z (length-set known t (n + 1) ∙ g .indexes)
-            (knows-short (tagsOf (g .ms)) known t n (free (tagsOf (g .ms)) (labelsOf (g .ms)) t (take 16 (drop m c)) (stood i)) (length-map (g .ms) (λ (q : Mapping). q .tag) ∙ g .long) (g .tables .index) l (g .indexes))
+            more i y z (length-set known t (n + 1) ∙ g .tables .indexes)
+            (knows-short (tagsOf (g .ms)) known t n (free (tagsOf (g .ms)) (labelsOf (g .ms)) t (take 16 (drop m c)) (stood i)) (length-map (g .ms) (λ (q : Mapping). q .tag) ∙ g .long) (g .tables .index) l (g .tables .indexes))
 
         pub sofar-more : {x : ℕ} → r ≡ false → x ≡ digestOf (take 16 (drop m c)) → x < 251 → 128 ≤ t
             → Sofar c place from k (set tags n t) (set places n m) known (set marks x 1) (n + 1) (m + 16)
         sofar-more i y z l =
-            more i y z (g .indexes)
+            more i y z (g .tables .indexes)
             (knows-long (tagsOf (g .ms)) known t n (free (tagsOf (g .ms)) (labelsOf (g .ms)) t (take 16 (drop m c)) (stood i)) (length-map (g .ms) (λ (q : Mapping). q .tag) ∙ g .long) (g .tables .index) l)

@@ -22,7 +22,7 @@ use Rattle.pack.specs.Payloads.{tagFound, payloadAt}
 use Rattle.pack.specs.Config.{Mapping, mappingsFrom, configMaps}
 use Rattle.pack.specs.Reading.{openingAt}
 use Rattle.pack_config.specs.First.{firstAt}
-use Rattle.pack_config.specs.Tables.{MapsRead}
+use Rattle.pack_config.specs.Tables.{MapsWalked}
 use Rattle.pack.specs.declared.Found.{Found}
 use Rattle.pack.specs.declared.Found.the-variants.{Whole, Wrong}
 use Rattle.pack_config.specs.declared.First.the-variants as F
@@ -103,9 +103,9 @@ pub maps-short : (s : List ℕ) (at v l : ℕ) → l < 2 → configMaps s at v l
 unfolding configMaps
 maps-short s at v l h = simp (lt-ltb _ _ h)
 
-pub maps-long : (s : List ℕ) (at v l x : ℕ) {r : Answer} {us vs ws : List ℕ} → 2 ≤ l → x ≡ v + l → MapsRead (mappingsFrom l (take x s) at [] (v + 2)) r us vs ws
-    → MapsRead (configMaps s at v l) r us vs ws
+pub maps-long : (s : List ℕ) (at v l x : ℕ) {r : Answer} {us vs ws : List ℕ} → 2 ≤ l → x ≡ v + l → MapsWalked (mappingsFrom l (take x s) at [] (v + 2)) r us vs ws
+    → MapsWalked (configMaps s at v l) r us vs ws
 unfolding configMaps
 maps-long s at v l x {r} {us} {vs} {ws} h e g =
     let z : mappingsFrom l (take x s) at [] (v + 2) ≡ configMaps s at v l = sym (simp (le-ltb _ _ h, e)) in
-    subst (λ (o : Outcome (List Mapping)). MapsRead o r us vs ws) z g
+    subst (λ (o : Outcome (List Mapping)). MapsWalked o r us vs ws) z g

@@ -16,12 +16,12 @@ use Rattle.refusals.specs.declared.Refusal.{Refusal}
 use Rattle.refusals.specs.declared.Answer.{Answer}
 use Rattle.refusals.specs.declared.Answer.the-variants as A
 use Rattle.refusals.specs.Outcomes.{Outcome, refused}
-use Rattle.refusals.proofs.Lent.{answers}
+use Rattle.refusals.proofs.Lent.{answers, done-was}
 use Rattle.pack.specs.Payloads.{nameFrom, nameOf}
 use Rattle.pack.specs.Config.{Mapping}
 use Rattle.pack.specs.Slots.{padded}
 use Rattle.pack.proofs.Padded.{length-padded, take-padded, set-padded}
-use Rattle.pack_config.specs.Tables.{Filled, indexed, Knows, Empty, Tables, MapsRead}
+use Rattle.pack_config.specs.Tables.{Filled, indexed, Knows, Empty, Tables, MapsWalked, mapsOf, MapsRead}
 use Rattle.pack.specs.declared.Name.the-variants.{Label}
 
 -- one tag more: its name is its index, and no other tag's name changes
@@ -60,11 +60,20 @@ unfolding nameFrom indexed
 knows-none t h = sym (ap (λ (k : ℕ). indexed k t) (getD-replicate 128 t 0 0 h))
 
 pub tables-none : {tags places known : List ℕ} → Empty tags places known → Tables [] tags places known
-tables-none e = record { tagged = e .tagged; placed = e .placed; index = subst (Knows []) (sym (e .index)) knows-none; few = omega arith }
+tables-none e = record { tagged = e .tagged; placed = e .placed; index = subst (Knows []) (sym (e .index)) knows-none; indexes = ap length (e .index); few = omega arith }
 
--- a refusal says nothing of the tables
-pub read-refused : {o : Outcome (List Mapping)} {why : Refusal} {p : ℕ} {r : Answer} {us vs ws : List ℕ} → o ≡ refused why p → r ≡ A.Refused why p → MapsRead o r us vs ws
-read-refused e q = record { count = answers length e q; tables = λ ms d. absurd-eq (cc) }
+-- a walk that is refused says nothing of the tables; they are empty then, or hold the mappings
+pub walk-refused : {o : Outcome (List Mapping)} {why : Refusal} {p : ℕ} {r : Answer} {us vs ws : List ℕ} → o ≡ refused why p → r ≡ A.Refused why p → MapsWalked o r us vs ws
+walk-refused e q = record { count = answers length e q; tables = λ ms d. absurd-eq (cc) }
+
+module _ {o : Outcome (List Mapping)} {us vs ws : List ℕ} where
+  pub read-refused : {why : Refusal} {p : ℕ} {r : Answer} → o ≡ refused why p → r ≡ A.Refused why p → Empty us vs ws → MapsRead o r us vs ws
+  read-refused e q n = record { count = answers length e q; tables = subst (λ (x : Outcome (List Mapping)). Tables (mapsOf x) us vs ws) (sym e) (tables-none n) }
+
+  pub read-walked : {r : Answer} {n : ℕ} → MapsWalked o r us vs ws → r ≡ A.Done n → MapsRead o (A.Done n) us vs ws
+  read-walked g e =
+      let d = done-was length (g .count) e in
+      record { count = sym e ∙ g .count; tables = subst (λ (x : Outcome (List Mapping)). Tables (mapsOf x) us vs ws) (sym (d .1)) (g .tables (d .0) (d .1)) }
 
 -- a column of the mappings as a table has it: the places in use, and one mapping more
 module _ (ms : List Mapping) (f : Mapping → ℕ) {table : List ℕ} {n : ℕ} (e : table ≡ padded 32 0 (map f ms)) (l : length ms ≡ n) where

@@ -1,13 +1,13 @@
 -- Inner. The tables in which the code keeps the mappings that it has read: their tags, where their labels stand, and an index of the tags of one byte.
 use mathlib.Core.Path.{_≡_}
-use mathlib.Core.List.{List, map}
+use mathlib.Core.List.{List, [], map}
 use mathlib.Core.Bool.{false}
 use Prim.Native.Nat.{ℕ, zero, suc, _+_, _<_, _≤_}
 use lib.ListN.{length, take, drop, getD, replicate}
 use Rattle.runs.specs.Same.{listed}
 use Rattle.runs.specs.Those.{Each}
 use Rattle.refusals.specs.declared.Answer.{Answer}
-use Rattle.refusals.specs.Outcomes.{Outcome, fine, answered}
+use Rattle.refusals.specs.Outcomes.{Outcome, fine, refused, answered}
 use Rattle.pack.specs.Fixed.{mappingCap}
 use Rattle.pack.specs.Payloads.{nameOf}
 use Rattle.pack.specs.Config.{Mapping, tagsOf, placesOf}
@@ -57,9 +57,20 @@ pub record Tables (ms : List Mapping) (tags places known : List ℕ) : Type 0 wh
   pub tagged : tags ≡ padded mappingCap 0 (tagsOf ms)
   pub placed : places ≡ padded mappingCap 0 (placesOf ms)
   pub index : Knows (tagsOf ms) known
+  pub indexes : length known ≡ 128
   pub few : length ms ≤ mappingCap
 
--- what reading mappings gives: how many there are, or the refusal; and the tables hold those that were read
-pub record MapsRead (o : Outcome (List Mapping)) (answer : Answer) (tags places known : List ℕ) : Type 0 where
+-- what the walk over the mappings gives: how many there are, or the refusal; and where it ends, the tables hold them
+pub record MapsWalked (o : Outcome (List Mapping)) (answer : Answer) (tags places known : List ℕ) : Type 0 where
   pub count : answer ≡ answered length o
   pub tables : (ms : List Mapping) → o ≡ fine ms → Tables ms tags places known
+
+-- the mappings that are read: none where they are refused
+abbrev pub mapsOf : Outcome (List Mapping) → List Mapping
+mapsOf (fine ms) = ms
+mapsOf (refused why place) = []
+
+-- what reading mappings gives: how many there are, or the refusal; and the tables hold those that are read
+pub record MapsRead (o : Outcome (List Mapping)) (answer : Answer) (tags places known : List ℕ) : Type 0 where
+  pub count : answer ≡ answered length o
+  pub tables : Tables (mapsOf o) tags places known

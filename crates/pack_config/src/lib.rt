@@ -6,7 +6,7 @@ ghost use lib.ListN.{length, take, drop};
 ghost use Rattle.runs.specs.Same.{among, listed};
 ghost use Rattle.pack.specs.Payloads.{nameOf};
 ghost use Rattle.pack.specs.Config.{clashes, mappingsFrom, configMaps};
-ghost use Rattle.pack_config.specs.Tables.{Filled, Knows, LabelsLie, standing, Judging, Empty, MapsRead};
+ghost use Rattle.pack_config.specs.Tables.{Filled, Knows, LabelsLie, standing, Judging, Empty, MapsWalked, MapsRead};
 ghost use Rattle.pack_config.specs.First.{firstAt};
 use numbers::TagRead;
 use pack::Found;
@@ -129,7 +129,7 @@ fn mappings(
     known: &mut [u8; 128],
 ) -> Answer
     requires { ⌜ (length (now c) ≤ 32768) × Empty (now tags) (now places) (now known) ⌝ }
-    ensures { λ r. ⌜ ((k : ℕ) → length (now (c .entry)) ≤ from + k → MapsRead (mappingsFrom k (now (c .entry)) place [] from) r (now (tags .exit)) (now (places .exit)) (now (known .exit))) ⌝ }
+    ensures { λ r. ⌜ ((k : ℕ) → length (now (c .entry)) ≤ from + k → MapsWalked (mappingsFrom k (now (c .entry)) place [] from) r (now (tags .exit)) (now (places .exit)) (now (known .exit))) ⌝ }
 {
     let mut marks = [0u8; 251];
     let mut mapped: usize = 0;
@@ -192,7 +192,16 @@ pub fn first_at(s: &[u8], at: usize) -> First
     }
 }
 
-// The mappings of the Config at `at`: its size, then each mapping. They go into the three tables, which come empty.
+// Empties the three tables.
+fn clear(tags: &mut [u32; 32], places: &mut [u32; 32], known: &mut [u8; 128])
+    ensures { λ _. ⌜ Empty (now (tags .exit)) (now (places .exit)) (now (known .exit)) ⌝ }
+{
+    *tags = [0u32; 32];
+    *places = [0u32; 32];
+    *known = [0u8; 128];
+}
+
+// The mappings of the Config at `at`: its size, then each mapping. They go into the three tables, which come empty, and are empty after a refusal.
 pub fn config(
     s: &[u8],
     at: usize,
@@ -209,5 +218,19 @@ pub fn config(
         return pack::refuse(Refusal::Config, at);
     }
     let end = value_start + value_len;
-    mappings(&s[0..end], at, value_start + 2, tags, places, known)
+    let maps = mappings(
+        &s[0..end],
+        at,
+        value_start + 2,
+        &mut *tags,
+        &mut *places,
+        &mut *known,
+    );
+    match maps {
+        Answer::Refused { why, place } => {
+            clear(tags, places, known);
+            Answer::Refused { why, place }
+        }
+        Answer::Done(n) => Answer::Done(n),
+    }
 }

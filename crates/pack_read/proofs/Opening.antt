@@ -1,7 +1,7 @@
 -- How the pack opens, and the whole reading, step by step.
 use Prim.Native.Nat.{ℕ, _+_, _≤_}
 use mathlib.Core.Path.{_≡_, refl, sym, ap, ap₂, _∙_, subst}
-use mathlib.Core.List.{List}
+use mathlib.Core.List.{List, []}
 use native.Mathlib.Omega.{arith}
 use lib.ListN.{length, take, replicate}
 use lib.Dec.{ltb}
@@ -20,12 +20,12 @@ use Rattle.refusals.proofs.Lent.{answers, refused-was, done-was}
 use Rattle.refusals.proofs.Outcomes.{then-fine, then-refused, then-then}
 use Rattle.pack.proofs.Turns.{start-small}
 use Rattle.pack_config.specs.First.{firstAt}
-use Rattle.pack_config.specs.Tables.{Filled, Knows, Empty, Tables, MapsRead}
+use Rattle.pack_config.specs.Tables.{Filled, Knows, Empty, Tables, mapsOf, MapsRead}
 use Rattle.pack_config.specs.declared.First.the-variants as F
 use Rattle.pack_config.proofs.Tables.{tables-none, column-is, column-filled}
 use Rattle.pack_config.proofs.Openings.{opens-without, opens-with, maps-short}
 use Rattle.pack_read.specs.Shown.{outlineOf, Outlined}
-use Rattle.pack_read.specs.Steps.{counted, shownBody, BodyTold, openedOf, Opens}
+use Rattle.pack_read.specs.Steps.{counted, shownBody, BodyTold, openedOf, opensWith, Opens}
 use Rattle.pack_read.specs.declared.Outline.{Outline}
 use Rattle.pack_read.specs.declared.Opened.{Opened}
 use Rattle.pack_read.specs.declared.Opened.the-variants as O
@@ -34,30 +34,36 @@ abbrev opening : List ℕ → Outcome Opening
 opening s = andThen (valueStart s) (openingAt s)
 
 module _ (s : List ℕ) {tags places known : List ℕ} where
-  stops : {why : Refusal} {p : ℕ} → opening s ≡ refused why p → Opens (opening s) (O.Refused why p) tags places known
+  stops : {why : Refusal} {p : ℕ} → opening s ≡ refused why p → Tables [] tags places known → Opens (opening s) (O.Refused why p) tags places known
   unfolding openedOf
-  stops e = record { told = sym (ap openedOf e); tables = λ x q. absurd-eq (cc) }
+  stops e t = record { told = sym (ap openedOf e); tables = subst (λ (o : Outcome Opening). Tables (opensWith o) tags places known) (sym e) t }
 
   begins : {o : Opening} → opening s ≡ fine o → Tables (o .mappings) tags places known → Opens (opening s) (O.From (o .offset) (length (o .mappings)) (o .next)) tags places known
   unfolding openedOf
-  begins {o} e t = record { told = sym (ap openedOf e); tables = λ x q. let same : o ≡ x = cc in subst (λ (y : Opening). Tables (y .mappings) tags places known) same t }
+  begins e t = record { told = sym (ap openedOf e); tables = subst (λ (x : Outcome Opening). Tables (opensWith x) tags places known) (sym e) t }
 
-  pub open-refused : {why : Refusal} {p : ℕ} → valueStart s ≡ refused why p → Opens (opening s) (O.Refused why p) tags places known
-  open-refused e = stops (then-refused (openingAt s) e)
+  pub open-refused : {why : Refusal} {p : ℕ} → valueStart s ≡ refused why p → Empty tags places known → Opens (opening s) (O.Refused why p) tags places known
+  open-refused e m = stops (then-refused (openingAt s) e) (tables-none m)
 
   module _ {at : ℕ} (h : valueStart s ≡ fine at) where
     pub open-without : firstAt s at ≡ F.Other → Empty tags places known → Opens (opening s) (O.From 0 0 at) tags places known
     open-without e m = begins (then-fine (openingAt s) h ∙ opens-without s at e) (tables-none m)
 
     module _ {v l : ℕ} (e : firstAt s at ≡ F.Config v l) {m : Answer} (g : MapsRead (configMaps s at v l) m tags places known) where
+      -- the tables hold what was read
+      hold : {o : Outcome (List Mapping)} → configMaps s at v l ≡ o → Tables (mapsOf o) tags places known
+      hold q = subst (λ (o : Outcome (List Mapping)). Tables (mapsOf o) tags places known) q (g .tables)
+
       pub open-stops : {why : Refusal} {p : ℕ} → m ≡ A.Refused why p → Opens (opening s) (O.Refused why p) tags places known
-      open-stops d = stops (then-fine (openingAt s) h ∙ opens-with s at v l e ∙ then-refused _ (refused-was length (g .count) d))
+      open-stops d =
+          let q = refused-was length (g .count) d in
+          stops (then-fine (openingAt s) h ∙ opens-with s at v l e ∙ then-refused _ q) (hold q)
 
       pub open-with : {n f : ℕ} → m ≡ A.Done n → f ≡ bigAt s v 2 → Opens (opening s) (O.From f n (v + l)) tags places known
       open-with {n} {f} d b =
           let m = done-was length (g .count) d in
           subst (λ (o : Opened). Opens (opening s) o tags places known) (ap₂ (λ (x k : ℕ). O.From x k (v + l)) (sym b) (m .2))
-          (begins (then-fine (openingAt s) h ∙ opens-with s at v l e ∙ then-fine _ (m .1)) (g .tables (m .0) (m .1)))
+          (begins (then-fine (openingAt s) h ∙ opens-with s at v l e ∙ then-fine _ (m .1)) (hold (m .1)))
 
       -- a Config whose mappings were read has its two bytes of offset
       pub open-sized : {n : ℕ} → m ≡ A.Done n → 2 ≤ l
@@ -107,7 +113,7 @@ module _ (s : List ℕ) {r : Opened} {tags places known : List ℕ} (g : Opens (
 
   module _ {f m n : ℕ} (e : r ≡ O.From f m n) where
     from : (P : Type 0) → ((x : Opening) → opening s ≡ fine x → Tables (x .mappings) tags places known → f ≡ x .offset → m ≡ length (x .mappings) → n ≡ x .next → P) → P
-    from P k = told-from (opening s) P (sym e ∙ g .told) (λ x q a b d. k x q (g .tables x q) a b d)
+    from P k = told-from (opening s) P (sym e ∙ g .told) (λ x q a b d. k x q (subst (λ (o : Outcome Opening). Tables (opensWith o) tags places known) q (g .tables)) a b d)
 
     opened-small : length s ≤ 32768
     opened-small = from (length s ≤ 32768) (λ x q t a b d. small s (valueStart s) refl q)

@@ -1,6 +1,6 @@
 -- Inner. What the steps of a reading and of a check make.
 use mathlib.Core.Path.{_≡_}
-use mathlib.Core.List.{List, map}
+use mathlib.Core.List.{List, [], map}
 use mathlib.Core.Bool.{Bool}
 use Prim.Native.Nat.{ℕ, _+_, _≤_}
 use lib.ListN.{length}
@@ -10,6 +10,7 @@ use Rattle.refusals.specs.declared.Answer.the-variants as A
 use Rattle.refusals.specs.Outcomes.{Outcome, fine, refused, answered}
 use Rattle.pack.specs.Fixed.{itemCap}
 use Rattle.pack.specs.Payloads.{innersFrom}
+use Rattle.pack.specs.Config.{Mapping}
 use Rattle.pack.specs.Items.{Body, countOf}
 use Rattle.pack.specs.Reading.{Opening}
 use Rattle.pack.specs.Slots.{slot, slots, blank, padded, shown}
@@ -70,7 +71,11 @@ unfoldable pub openedOf : Outcome Opening → Opened
 openedOf (fine o) = O.From (o .offset) (length (o .mappings)) (o .next)
 openedOf (refused why place) = O.Refused why place
 
--- and the tables of its mappings
+-- and the tables of its mappings, of which there are none where it is refused
+abbrev pub opensWith : Outcome Opening → List Mapping
+opensWith (fine o) = o .mappings
+opensWith (refused why place) = []
+
 pub record Opens (o : Outcome Opening) (r : Opened) (tags places known : List ℕ) : Type 0 where
   pub told : r ≡ openedOf o
-  pub tables : (x : Opening) → o ≡ fine x → Tables (x .mappings) tags places known
+  pub tables : Tables (opensWith o) tags places known

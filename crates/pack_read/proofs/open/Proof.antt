@@ -36,7 +36,7 @@ add-t23 : tie.Need-add-t23
 add-t23 c = omega (arith, first-within _ _ _ _ (configs (c .before .before .before .before .before .before .before .before .before)), start-small _ _ (started (c .before .before .before .before .before .before .before .before .before .before .before .before .before)))
 
 returns : tie.Need-returns
-returns c = open-refused _ (refused-was (λ (n : ℕ). n) (c .before .before .before .value-start .ensures) (c .before .start .given .1))
+returns c = open-refused _ (refused-was (λ (n : ℕ). n) (c .before .before .before .value-start .ensures) (c .before .start .given .1)) (c .before .before .before .before .before .pre)
 
 returns-2 : tie.Need-returns-2
 returns-2 c = open-without _ (started (c .before .before .before .before)) (sym (c .before .before .first-at .ensures) ∙ c .enum-told .given .1) (c .before .before .before .before .before .before .before .before .pre)
