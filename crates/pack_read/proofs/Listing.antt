@@ -22,84 +22,90 @@ use Rattle.pack.specs.declared.Slot.{Slot}
 use Rattle.pack.specs.declared.Reading.{Reading}
 use Rattle.pack.specs.declared.Found.the-variants.{Whole, Wrong}
 use Rattle.pack.specs.declared.Step.the-variants as S
+use Rattle.pack.proofs.Payloads.{inner-within, plain-fits, open-fits}
 use Rattle.pack.proofs.Slots.{slots-count}
 use Rattle.pack_read.proofs.Inside.{WithinSync, SomeWithin, inside-begins, inside-ends, inside-stops, inside-on, inside-done, inside-refused}
 use Rattle.pack_read.proofs.Coming.{Coming, coming-begins, coming-plain, sync-on, inside-part, inside-enough}
-use Rattle.pack_slots.specs.Slots.{slotsIn}
+use Rattle.pack_slots.specs.Slots.{slotsIn, Exact, Slotted}
+use Rattle.pack_slots.proofs.Laws.{exact-put, slots-none, exact-none}
 use Rattle.pack_read.specs.Shown.{outlineOf, assembled}
 use Rattle.pack_read.specs.Steps.{InsideRead, shownBody, doneOf, BodyTold}
 use Rattle.pack_read.specs.declared.Outline.{Outline}
 use Rattle.pack_read.proofs.Slots.{innerSlot, slots-more, sets-padded, sets-snoc, sets-before}
 
 -- the payloads of a Sync so far stand in the array from slot `used` on
-pub record Filling (q tags : List ℕ) (base fuel used : ℕ) (items₀ items : List Slot) (k j : ℕ) : Type 0 where
+pub record Filling (q tags : List ℕ) (base fuel used : ℕ) (before now : List ℕ) (k j : ℕ) : Type 0 where
   pub xs : List Payload
   pub inside : WithinSync q tags base fuel used xs k j
-  pub full : items ≡ sets items₀ used (map innerSlot xs)
+  pub full : slotsIn now ≡ sets (slotsIn before) used (map innerSlot xs)
+  pub exact : Exact now
 
-pub filling-begins : (q tags : List ℕ) (base fuel used : ℕ) (items : List Slot) → used ≤ 64 → length q ≤ fuel → Filling q tags base fuel used items items used 0
-filling-begins q tags base fuel used items h g = record { xs = []; inside = inside-begins q tags base fuel used h g; full = refl }
+pub filling-begins : (q tags : List ℕ) (base fuel used : ℕ) (before : List ℕ) → used ≤ 64 → length q ≤ fuel → Exact before → Filling q tags base fuel used before before used 0
+filling-begins q tags base fuel used before h g e = record { xs = []; inside = inside-begins q tags base fuel used h g; full = refl; exact = e }
 
-pub filling-on : {q tags : List ℕ} {base fuel used : ℕ} {items₀ items : List Slot} {k j t v l : ℕ} {x : Payload} → Filling q tags base fuel used items₀ items k j
-    → j < length q → innerAt q j k ≡ Whole t v l → x ≡ payload tags (base + j) t (base + v) l → {after : List Slot} → after ≡ set items k (slot (I.Inner x))
-    → Filling q tags base fuel used items₀ after (k + 1) (v + l)
-filling-on {q} {tags} {base} {fuel} {used} {items₀} {items} {k} {j} {t} {v} {l} {x} g h e i put = record {
+pub filling-on : {q tags : List ℕ} {base fuel used : ℕ} {before now : List ℕ} {k j t v l : ℕ} {x : Payload} → Filling q tags base fuel used before now k j
+    → j < length q → innerAt q j k ≡ Whole t v l → x ≡ payload tags (base + j) t (base + v) l → {after : List ℕ} → Slotted now k (I.Inner x) after
+    → Filling q tags base fuel used before after (k + 1) (v + l)
+filling-on {q} {tags} {base} {fuel} {used} {before} {now} {k} {j} {t} {v} {l} {x} g h e i put = record {
   xs = g .xs ++ (payload tags (base + j) t (base + v) l ∷ []);
   inside = inside-on (g .inside) h e;
   full =
       let m : used + length (map innerSlot (g .xs)) ≡ k = omega (arith, length-map (g .xs) innerSlot, g .inside .long) in
-      put
+      put .slots
       ∙ ap₂ (λ (a : List Slot) (y : Payload). set a k (innerSlot y)) (g .full) i
-      ∙ sets-snoc items₀ used (map innerSlot (g .xs)) k (innerSlot (payload tags (base + j) t (base + v) l)) m
-      ∙ ap (sets items₀ used) (sym (map-append innerSlot (g .xs) (payload tags (base + j) t (base + v) l ∷ [])));
+      ∙ sets-snoc (slotsIn before) used (map innerSlot (g .xs)) k (innerSlot (payload tags (base + j) t (base + v) l)) m
+      ∙ ap (sets (slotsIn before) used) (sym (map-append innerSlot (g .xs) (payload tags (base + j) t (base + v) l ∷ [])));
+  exact = exact-put (inner-within q j k t v l e .room) put (g .exact);
 }
 
 -- what is told when the loop over an inside is through, and where it stops
-module _ {q tags : List ℕ} {base used : ℕ} {items₀ items : List Slot} {k j : ℕ} (g : (fuel : ℕ) → length q ≤ fuel → Filling q tags base fuel used items₀ items k j) where
+module _ {q tags : List ℕ} {base used : ℕ} {before now : List ℕ} {k j : ℕ} (g : (fuel : ℕ) → length q ≤ fuel → Filling q tags base fuel used before now k j) where
   some : (fuel : ℕ) → length q ≤ fuel → SomeWithin q tags base fuel used k j
   some fuel h = record { xs = g fuel h .xs; inside = g fuel h .inside }
 
-  pub filling-ends : length q ≤ j → InsideRead q tags base used (A.Done k) items₀ items
+  pub filling-ends : length q ≤ j → InsideRead q tags base used (A.Done k) before now
   filling-ends z = record {
     inside = inside-done some z;
     full = λ fuel xs h e.
         let w = g fuel h in
         let i = inside-ends (w .inside) z in
         let same : w .xs ≡ xs = cc in
-        w .full ∙ ap (λ (ys : List Payload). sets items₀ used (map innerSlot ys)) same;
+        w .full ∙ ap (λ (ys : List Payload). sets (slotsIn before) used (map innerSlot ys)) same;
+    exact = g (length q) (omega arith) .exact;
   }
 
-  pub filling-stops : j < length q → {why : Refusal} → innerAt q j k ≡ Wrong why → {r : Answer} → r ≡ A.Refused why (base + j) → InsideRead q tags base used r items₀ items
+  pub filling-stops : j < length q → {why : Refusal} → innerAt q j k ≡ Wrong why → {r : Answer} → r ≡ A.Refused why (base + j) → InsideRead q tags base used r before now
   filling-stops h e i = record {
     inside = inside-refused some h e i;
     full = λ fuel xs l d. let o = inside-stops (g fuel l .inside) h e in absurd-eq (cc);
+    exact = g (length q) (omega arith) .exact;
   }
 
 -- the items so far stand in the array
-pub record Listing (s tags : List ℕ) (from : ℕ) (items : List Slot) (n at : ℕ) : Type 0 where
+pub record Listing (s tags : List ℕ) (from : ℕ) (held : List ℕ) (n at : ℕ) : Type 0 where
   pub parts : List Part
   pub coming : Coming s tags from parts n at
-  pub full : items ≡ padded 64 blank (slots parts)
+  pub full : slotsIn held ≡ padded 64 blank (slots parts)
+  pub exact : Exact held
 
-pub listing-begins : (s tags : List ℕ) (from : ℕ) {items : List Slot} → items ≡ replicate 64 blank → Listing s tags from items 0 from
+pub listing-begins : (s tags : List ℕ) (from : ℕ) {held : List ℕ} → held ≡ replicate 512 0 → Listing s tags from held 0 from
 unfolding slots
-listing-begins s tags from e = record { parts = []; coming = coming-begins s tags from; full = e }
+listing-begins s tags from e = record {
+  parts = [];
+  coming = coming-begins s tags from;
+  full = ap slotsIn e ∙ slots-none;
+  exact = subst Exact (sym e) exact-none;
+}
 
--- what is told of a refusal
-pub tells-refused : {o : Outcome Body} {why : Refusal} {p : ℕ} {r : Outline} (offset mapped : ℕ) (all slots : List ℕ) → o ≡ refused why p
-    → r ≡ outlineOf (shown (refused why p)) → BodyTold offset mapped all o r slots
-unfolding shownBody shown
-tells-refused offset mapped all slots e q places =
-    (q ∙ sym (ap (λ (b : Outcome Body). outlineOf (shownBody offset mapped all places b)) e), λ n h. absurd-eq (cc))
-
-module _ {s tags : List ℕ} {from : ℕ} {items : List Slot} {n at : ℕ} (g : Listing s tags from items n at) where
+module _ {s tags : List ℕ} {from : ℕ} {held : List ℕ} {n at : ℕ} (g : Listing s tags from held n at) where
   -- how many slots are used
   used : length (slots (g .parts)) ≡ n
   used = slots-count (g .parts) ∙ g .coming .long
 
   -- one part more, stored in its slots
-  listing-on : (x : Part) {m next : ℕ} {after : List Slot} → Coming s tags from (g .parts ++ (x ∷ [])) m next → after ≡ sets items n (slots (x ∷ [])) → Listing s tags from after m next
-  listing-on x coming put = record {
+  listing-on : (x : Part) {m next : ℕ} {after : List ℕ} → Coming s tags from (g .parts ++ (x ∷ [])) m next → slotsIn after ≡ sets (slotsIn held) n (slots (x ∷ [])) → Exact after
+      → Listing s tags from after m next
+  listing-on x coming put exact = record {
     parts = g .parts ++ (x ∷ []);
     coming = coming;
     full =
@@ -108,40 +114,59 @@ module _ {s tags : List ℕ} {from : ℕ} {items : List Slot} {n at : ℕ} (g : 
         ∙ ap (λ (a : List Slot). sets a n (slots (x ∷ []))) (g .full)
         ∙ sets-padded 64 blank (slots (g .parts)) n (slots (x ∷ [])) used (omega (arith, long, used, coming .long, coming .room))
         ∙ ap (padded 64 blank) (sym (slots-more (g .parts) x));
+    exact = exact;
   }
 
   module _ (h : at < length s) where
-    pub listing-plain : {t v l : ℕ} {x : Payload} → itemAt s at n ≡ S.Plain t v l → x ≡ payload tags at t v l → {after : List Slot}
-        → after ≡ set items n (slot (I.Single x)) → Listing s tags from after (n + 1) (v + l)
+    pub listing-plain : {t v l : ℕ} {x : Payload} → itemAt s at n ≡ S.Plain t v l → x ≡ payload tags at t v l → {after : List ℕ}
+        → Slotted held n (I.Single x) after → Listing s tags from after (n + 1) (v + l)
     unfolding slots
     listing-plain {t} {v} {l} e i put =
-        listing-on (one (payload tags at t v l)) (coming-plain (g .coming) h e) (put ∙ ap (λ (y : Payload). set items n (slot (I.Single y))) i)
+        listing-on (one (payload tags at t v l)) (coming-plain (g .coming) h e) (put .slots ∙ ap (λ (y : Payload). set (slotsIn held) n (slot (I.Single y))) i)
+        (exact-put (plain-fits s at n t v l e .room) put (g .exact))
 
     -- a Sync, by what is told of its inside, as the code cuts it
-    pub listing-sync : {v l k : ℕ} (e : itemAt s at n ≡ S.Open v l) {r : Answer} {items₁ : List Slot}
-        (cut : InsideRead (take (v + l - (v + 4)) (drop (v + 4) s)) tags (v + 4) (n + 1) r items items₁) → r ≡ A.Done k → (k ≡ n + 1 → ⊥) → {x : Head}
-        → x ≡ syncHead s at v l (k - (n + 1)) → {after : List Slot} → after ≡ set items₁ n (slot (I.Sync x)) → Listing s tags from after k (v + l)
+    pub listing-sync : {v l k : ℕ} (e : itemAt s at n ≡ S.Open v l) {r : Answer} {inner : List ℕ}
+        (cut : InsideRead (take (v + l - (v + 4)) (drop (v + 4) s)) tags (v + 4) (n + 1) r held inner) → r ≡ A.Done k → (k ≡ n + 1 → ⊥) → {x : Head}
+        → x ≡ syncHead s at v l (k - (n + 1)) → {after : List ℕ} → Slotted inner n (I.Sync x) after → Listing s tags from after k (v + l)
     unfolding slots
-    listing-sync {v} {l} {k} e {r} {items₁} cut d u y put =
+    listing-sync {v} {l} {k} e {r} {inner} cut d u y put =
         let o = sync-on (g .coming) h e (cut .inside) d u in
         let xs = o .0 in
-        let inner : k - (n + 1) ≡ length xs = omega (arith, o .2) in
+        let some : k - (n + 1) ≡ length xs = omega (arith, o .2) in
         let head = syncHead s at v l (length xs) in
-        let reads = subst (λ (q : List ℕ). InsideRead q tags (v + 4) (n + 1) r items items₁) (inside-part s v l) cut in
+        let reads = subst (λ (q : List ℕ). InsideRead q tags (v + 4) (n + 1) r held inner) (inside-part s v l) cut in
         listing-on (many head xs) (o .3)
-        (put
-        ∙ ap₂ (λ (a : List Slot) (z : Head). set a n (slot (I.Sync z))) (reads .full l xs (inside-enough s at n v l e) (o .1)) (y ∙ ap (syncHead s at v l) inner)
-        ∙ sets-before items (n + 1) n (map innerSlot xs) (slot (I.Sync head)) (omega arith)
-        ∙ ap₂ (λ (z : ℕ) (ws : List Slot). sets (set items n (slot (I.Sync head))) z ws) (add-one n) (sym (append-nil (map innerSlot xs))))
+        (put .slots
+        ∙ ap₂ (λ (a : List Slot) (z : Head). set a n (slot (I.Sync z))) (reads .full l xs (inside-enough s at n v l e) (o .1)) (y ∙ ap (syncHead s at v l) some)
+        ∙ sets-before (slotsIn held) (n + 1) n (map innerSlot xs) (slot (I.Sync head)) (omega arith)
+        ∙ ap₂ (λ (z : ℕ) (ws : List Slot). sets (set (slotsIn held) n (slot (I.Sync head))) z ws) (add-one n) (sym (append-nil (map innerSlot xs))))
+        (exact-put (open-fits s at n v l e .0 .room) put (cut .exact))
+
+-- the items are refused
+pub tells-refused : {o : Outcome Body} {why : Refusal} {p : ℕ} {r : Outline} (offset mapped : ℕ) (all slots : List ℕ) → o ≡ refused why p
+    → r ≡ outlineOf (shown (refused why p)) → Exact slots → BodyTold offset mapped all o r slots
+unfolding shownBody shown
+tells-refused offset mapped all slots e q exact = record {
+  told = λ places. q ∙ sym (ap (λ (b : Outcome Body). outlineOf (shownBody offset mapped all places b)) e);
+  full = λ places n h. absurd-eq (cc);
+  exact = exact;
+}
 
 -- the items are read
-pub tells-done : {s tags : List ℕ} {from n at : ℕ} (slots : List ℕ) (g : Listing s tags from (slotsIn slots) n at) (offset mapped : ℕ) (all : List ℕ) {c : Bool} {r : Outline}
+pub tells-done : {s tags : List ℕ} {from n at : ℕ} (slots : List ℕ) (g : Listing s tags from slots n at) (offset mapped : ℕ) (all : List ℕ) {c : Bool} {r : Outline}
     → itemsFrom (length s) s tags from 0 ≡ fine (record { parts = g .parts; crc = c }) → r ≡ doneOf n offset c mapped
     → BodyTold offset mapped all (itemsFrom (length s) s tags from 0) r slots
 unfolding shownBody
-tells-done {s} {tags} {from} {n} slots g offset mapped all {c} {r} e q places =
-    let same : _≡_ {A = Reading} (record { answer = A.Done n; offset = offset; crc = c; mapped = mapped; tags = all; labels = places; items = slotsIn slots })
+tells-done {s} {tags} {from} {n} slots g offset mapped all {c} {r} e q =
+    let same : (places : List ℕ)
+    → _≡_ {A = Reading} (record { answer = A.Done n; offset = offset; crc = c; mapped = mapped; tags = all; labels = places; items = slotsIn slots })
     (shownBody offset mapped all places (itemsFrom (length s) s tags from 0))
-    = ap₂ (λ (m : ℕ) (l : List Slot). record { answer = A.Done m; offset = offset; crc = c; mapped = mapped; tags = all; labels = places; items = l }) (sym (g .coming .long)) (g .full)
+    = λ places.
+    ap₂ (λ (m : ℕ) (l : List Slot). record { answer = A.Done m; offset = offset; crc = c; mapped = mapped; tags = all; labels = places; items = l }) (sym (g .coming .long)) (g .full)
     ∙ sym (ap (shownBody offset mapped all places) e) in
-    (q ∙ ap outlineOf same, λ m d. ap (λ (o : Outline). assembled o all places slots) q ∙ same)
+    record {
+      told = λ places. q ∙ ap outlineOf (same places);
+      full = λ places m d. ap (λ (o : Outline). assembled o all places slots) q ∙ same places;
+      exact = g .exact;
+    }

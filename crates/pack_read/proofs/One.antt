@@ -4,30 +4,30 @@ use mathlib.Core.Path.{_≡_, refl, sym, ap, _∙_}
 use mathlib.Core.List.{List}
 use Rattle.runs.proofs.Cases.{one}
 use Rattle.refusals.specs.declared.Answer.{Answer}
-use Rattle.refusals.specs.declared.Answer.the-variants as A
 use Rattle.refusals.specs.Outcomes.{Outcome, fine, refused, answered}
 use Rattle.pack.specs.Items.{countOf}
 use Rattle.pack.specs.Reading.{Read, reading, checked}
 use Rattle.pack.specs.Slots.{shown}
+use Rattle.pack.specs.Made.{made}
 use Rattle.pack.specs.Meaning.{valueOf, labelAt}
 use Rattle.pack.specs.declared.Payload.{Payload}
 use Rattle.pack.specs.declared.Reading.{Reading}
-use Rattle.pack_slots.specs.Slots.{slotsIn}
-use Rattle.pack_read.specs.Shown.{Outlined}
+use Rattle.pack_slots.specs.Slots.{itemNumbers}
+use Rattle.pack_read.specs.Shown.{outlineOf, Outlined}
 use Rattle.pack_read.specs.declared.Outline.{Outline}
 
 pub reading-one : (s : List ℕ) (a b : Reading) → a ≡ shown (reading s) → b ≡ shown (reading s) → a ≡ b
 reading-one s a b = one
 
--- after a refusal nothing is said of the arrays
+-- the outline, and each number of the three arrays
 pub outline-one : (s : List ℕ) (a b : Outline) (xs ts ps ys us qs : List ℕ) → Outlined s a xs ts ps → Outlined s b ys us qs
-    → (a ≡ b) × ((n : ℕ) → a .answer ≡ A.Done n → (slotsIn xs ≡ slotsIn ys) × (ts ≡ us) × (ps ≡ qs))
+    → (a ≡ b) × (xs ≡ ys) × (ts ≡ us) × (ps ≡ qs)
 outline-one s a b xs ts ps ys us qs g h =
-    let e = one (g .told) (h .told) in (
-      e,
-      λ n d.
-          let w = one (g .whole n d) (h .whole n (sym (ap (λ (o : Outline). o .answer) e) ∙ d)) in
-          (ap (λ (f : Reading). f .items) w, ap (λ (f : Reading). f .tags) w, ap (λ (f : Reading). f .labels) w),
+    let w = one (g .whole) (h .whole) in (
+      ap outlineOf w,
+      g .exact ∙ ap (λ (f : Reading). made itemNumbers (f .items)) w ∙ sym (h .exact),
+      ap (λ (f : Reading). f .tags) w,
+      ap (λ (f : Reading). f .labels) w,
     )
 
 pub check-one : (s : List ℕ) (a b : Answer) → a ≡ checked s → b ≡ checked s → a ≡ b

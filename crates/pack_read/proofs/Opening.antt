@@ -29,6 +29,7 @@ use Rattle.pack_read.specs.Steps.{counted, shownBody, BodyTold, openedOf
 use Rattle.pack_read.specs.declared.Outline.{Outline}
 use Rattle.pack_read.specs.declared.Opened.{Opened}
 use Rattle.pack_read.specs.declared.Opened.the-variants as O
+use Rattle.pack_read.proofs.Outlines.{outlined-empty}
 
 abbrev opening : List ℕ → Outcome Opening
 opening s = andThen (valueStart s) (openingAt s)
@@ -106,10 +107,12 @@ module _ (s : List ℕ) {r : Opened} {tags places known : List ℕ} (g : Opens (
   whole-refused : {why : Refusal} {p : ℕ} → r ≡ O.Refused why p → reading s ≡ refused why p
   whole-refused e = whole s ∙ then-refused (readFrom s) (told-refused (opening s) (sym e ∙ g .told))
 
-  pub outlined-refused : {why : Refusal} {p : ℕ} {o : Outline} {slots : List ℕ} → r ≡ O.Refused why p → o ≡ outlineOf (shown (refused why p))
+  pub outlined-refused : {why : Refusal} {p : ℕ} {o : Outline} {slots : List ℕ} → r ≡ O.Refused why p → o ≡ outlineOf (shown (refused why p)) → slots ≡ replicate 512 0
       → Outlined s o slots tags places
   unfolding shown
-  outlined-refused e q = record { told = q ∙ ap (λ (b : Outcome Read). outlineOf (shown b)) (sym (whole-refused e)); whole = λ n h. absurd-eq (cc) }
+  outlined-refused e q none =
+      let t = subst (λ (x : Outcome Opening). Tables (opensWith x) tags places known) (told-refused (opening s) (sym e ∙ g .told)) (g .tables) in
+      outlined-empty (q ∙ ap (λ (b : Outcome Read). outlineOf (shown b)) (sym (whole-refused e))) (ap (λ (x : Outline). x .answer) q) (none, t .tagged, t .placed)
 
   module _ {f m n : ℕ} (e : r ≡ O.From f m n) where
     from : (P : Type 0) → ((x : Opening) → opening s ≡ fine x → Tables (x .mappings) tags places known → f ≡ x .offset → m ≡ length (x .mappings) → n ≡ x .next → P) → P
@@ -142,8 +145,14 @@ module _ (s : List ℕ) {r : Opened} {tags places known : List ℕ} (g : Opens (
         ∙ shown-by x t (itemsFrom (length s) s (tagsOf (x .mappings)) (x .next) 0)
         ∙ ap shown (sym (whole s ∙ then-fine (readFrom s) q)))
 
-    pub outlined-from : {o : Outline} {slots : List ℕ} → BodyTold f m tags (itemsFrom (length s) s (take m tags) n 0) o slots → Outlined s o slots tags places
-    outlined-from b = record { told = b places .0 ∙ ap outlineOf whole-from; whole = λ k h. b places .1 k h ∙ whole-from }
+    -- the items are read, or refused and the arrays emptied
+    module _ {o : Outline} {slots : List ℕ} (b : BodyTold f m tags (itemsFrom (length s) s (take m tags) n 0) o slots) where
+      pub outlined-from : {k : ℕ} → o .answer ≡ A.Done k → Outlined s o slots tags places
+      outlined-from {k} h = record { whole = b .full places k h ∙ whole-from; exact = b .exact }
+
+      pub outlined-stops : {why : Refusal} {p : ℕ} {us vs ws : List ℕ} → o .answer ≡ A.Refused why p → (us ≡ replicate 512 0) × (vs ≡ replicate 32 0) × (ws ≡ replicate 32 0)
+          → Outlined s o us vs ws
+      outlined-stops h none = outlined-empty (b .told places ∙ ap outlineOf whole-from) h none
 
 -- THE ANSWER ALONE
 

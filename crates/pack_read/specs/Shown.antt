@@ -2,11 +2,10 @@
 use mathlib.Core.Path.{_≡_}
 use mathlib.Core.List.{List}
 use Prim.Native.Nat.{ℕ}
-use Rattle.refusals.specs.declared.Answer.the-variants as A
 use Rattle.pack.specs.Reading.{reading}
 use Rattle.pack.specs.Slots.{shown}
 use Rattle.pack.specs.declared.Reading.{Reading}
-use Rattle.pack_slots.specs.Slots.{slotsIn}
+use Rattle.pack_slots.specs.Slots.{slotsIn, Exact}
 use Rattle.pack_read.specs.declared.Outline.{Outline}
 
 -- what is read beside the slots and the mappings
@@ -25,7 +24,7 @@ assembled o tags places slots = record {
   items = slotsIn slots;
 }
 
--- the outline is that of the reading, and where the pack is accepted the arrays hold the rest of it
+-- the outline and what the arrays hold are the reading, and the array of its slots is their numbers
 pub record Outlined (s : List ℕ) (r : Outline) (slots tags places : List ℕ) : Type 0 where
-  pub told : r ≡ outlineOf (shown (reading s))
-  pub whole : (n : ℕ) → r .answer ≡ A.Done n → assembled r tags places slots ≡ shown (reading s)
+  pub whole : assembled r tags places slots ≡ shown (reading s)
+  pub exact : Exact slots

@@ -16,9 +16,9 @@ use Rattle.pack.specs.Reading.{Opening}
 use Rattle.pack.specs.Slots.{slot, slots, blank, padded, shown}
 use Rattle.pack.specs.declared.Payload.{Payload}
 use Rattle.pack.specs.declared.Item.the-variants as I
-use Rattle.pack.specs.declared.Slot.{Slot}
 use Rattle.pack.specs.declared.Reading.{Reading}
 use Rattle.pack_config.specs.Tables.{Tables}
+use Rattle.pack_slots.specs.Slots.{slotsIn, Exact}
 use Rattle.pack_read.specs.Shown.{outlineOf, assembled}
 use Rattle.pack_read.specs.declared.Outline.{Outline}
 use Rattle.pack_read.specs.declared.Opened.{Opened}
@@ -38,9 +38,11 @@ pub record InsideTold (q tags : List ℕ) (base used : ℕ) (r : Answer) : Type 
   pub few : (n : ℕ) → r ≡ A.Done n → n ≤ itemCap
 
 -- the payloads of an inside q are told, and stand in the slots from `used` on
-pub record InsideRead (q tags : List ℕ) (base used : ℕ) (r : Answer) (before after : List Slot) : Type 0 where
+pub record InsideRead (q tags : List ℕ) (base used : ℕ) (r : Answer) (before after : List ℕ) : Type 0 where
   pub inside : InsideTold q tags base used r
-  pub full : (k : ℕ) (xs : List Payload) → length q ≤ k → innersFrom k q tags base 0 used ≡ fine xs → after ≡ sets before used (map (λ (x : Payload). slot (I.Inner x)) xs)
+  pub full : (k : ℕ) (xs : List Payload) → length q ≤ k → innersFrom k q tags base 0 used ≡ fine xs
+      → slotsIn after ≡ sets (slotsIn before) used (map (λ (x : Payload). slot (I.Inner x)) xs)
+  pub exact : Exact after
 
 -- how the struct shows the items of a pack whose opening is known: its offset, how many mappings, and their two tables
 unfoldable pub shownBody : ℕ → ℕ → List ℕ → List ℕ → Outcome Body → Reading
@@ -59,12 +61,11 @@ shownBody offset mapped tags places (refused why place) = shown (refused why pla
 abbrev pub doneOf : ℕ → ℕ → Bool → ℕ → Outline
 doneOf n offset crc mapped = record { answer = A.Done n; offset = offset; crc = crc; mapped = mapped }
 
--- what `Outlined` says, of the items of a pack whose opening is known, wherever the labels of its mappings stand
-abbrev pub BodyTold : ℕ → ℕ → List ℕ → Outcome Body → Outline → List ℕ → Type 0
-BodyTold offset mapped tags o r slots =
-    (places : List ℕ)
-    → (r ≡ outlineOf (shownBody offset mapped tags places o))
-    × ((n : ℕ) → r .answer ≡ A.Done n → assembled r tags places slots ≡ shownBody offset mapped tags places o)
+-- the items of a pack whose opening is known are told, wherever the labels of its mappings stand; and where it is accepted they stand in the slots
+pub record BodyTold (offset mapped : ℕ) (tags : List ℕ) (o : Outcome Body) (r : Outline) (slots : List ℕ) : Type 0 where
+  pub told : (places : List ℕ) → r ≡ outlineOf (shownBody offset mapped tags places o)
+  pub full : (places : List ℕ) (n : ℕ) → r .answer ≡ A.Done n → assembled r tags places slots ≡ shownBody offset mapped tags places o
+  pub exact : Exact slots
 
 -- an opening as the code has it: three numbers, or the refusal
 unfoldable pub openedOf : Outcome Opening → Opened

@@ -13,7 +13,7 @@ ghost use Rattle.pack.specs.Fixed.{mappingCap};
 ghost use Rattle.pack.specs.Payloads.{payload};
 ghost use Rattle.pack.specs.Meaning.{stretchIn, valueOf, labelAt};
 ghost use Rattle.pack_config.specs.Tables.{Filled, Knows, Empty};
-ghost use Rattle.pack_slots.specs.Slots.{slotsIn};
+ghost use Rattle.pack_slots.specs.Slots.{slotsIn, Exact};
 use pack::Found;
 use pack::Head;
 use pack::Item;
@@ -176,24 +176,6 @@ fn blanks() -> [Slot; 64]
     [s; 64]
 }
 
-// The reading of a pack that is refused.
-fn refused(why: Refusal, place: usize) -> Reading
-    ensures { λ r. ⌜ r ≡ shown (Outcome.refused why place) ⌝ }
-{
-    let items = blanks();
-    let tags = [0u32; 32];
-    let labels = [0u32; 32];
-    Reading {
-        answer: Answer::Refused { why, place },
-        offset: 0,
-        crc: false,
-        mapped: 0,
-        tags,
-        labels,
-        items,
-    }
-}
-
 // A payload by the tables of the mappings.
 fn payload(
     tags: &[u32; 32],
@@ -241,8 +223,8 @@ fn read_inside(
     known: &[u8; 128],
     slots: &mut [u32; 512],
 ) -> Answer
-    requires { ⌜ (used ≤ 64) × (base + length (now q) ≤ 32768) × Filled mapped (now tags) × Knows (take mapped (now tags)) (now known) ⌝ }
-    ensures { λ r. ⌜ InsideRead (now (q .entry)) (take mapped (now (tags .entry))) base used r (slotsIn (now (slots .entry))) (slotsIn (now (slots .exit))) ⌝ }
+    requires { ⌜ (used ≤ 64) × (base + length (now q) ≤ 32768) × Filled mapped (now tags) × Knows (take mapped (now tags)) (now known) × Exact (now slots) ⌝ }
+    ensures { λ r. ⌜ InsideRead (now (q .entry)) (take mapped (now (tags .entry))) base used r (now (slots .entry)) (now (slots .exit)) ⌝ }
 {
     let mut k = used;
     let mut j: usize = 0;
@@ -450,8 +432,17 @@ pub fn check(pack: &[u8]) -> Answer
     }
 }
 
+// Empties the slots and the tables of a pack that is refused.
+fn clear(slots: &mut [u32; 512], tags: &mut [u32; 32], places: &mut [u32; 32])
+    ensures { λ _. ⌜ (now (slots .exit) ≡ replicate 512 0) × (now (tags .exit) ≡ replicate mappingCap 0) × (now (places .exit) ≡ replicate mappingCap 0) ⌝ }
+{
+    *slots = [0u32; 512];
+    *tags = [0u32; 32];
+    *places = [0u32; 32];
+}
+
 // The reading of a pack, its slots as numbers in `slots`, the tags of its mappings in `tags`, and where their labels stand in `places`. All three
-// come empty; what they hold after a refusal is not told.
+// come empty, and are empty after a refusal.
 pub fn read_into(
     pack: &[u8],
     slots: &mut [u32; 512],
@@ -469,7 +460,17 @@ pub fn read_into(
             offset,
             mapped,
             next,
-        } => read_items(pack, next, offset, mapped, tags, &known, slots),
+        } => {
+            let found = read_items(pack, next, offset, mapped, tags, &known, &mut *slots);
+            let answer = found.answer;
+            match answer {
+                Answer::Done(_) => found,
+                Answer::Refused { why: _, place: _ } => {
+                    clear(slots, tags, places);
+                    found
+                }
+            }
+        }
     }
 }
 
@@ -496,9 +497,6 @@ pub fn read(pack: &[u8]) -> Reading
     let mut places = [0u32; 32];
     let found = read_into(pack, &mut slots, &mut tags, &mut places);
     let answer = found.answer;
-    if let Answer::Refused { why, place } = answer {
-        return refused(why, place);
-    }
     let items = listed(&slots);
     Reading {
         answer,

@@ -9,6 +9,7 @@ use Rattle.runs.specs.Cells.{cells}
 use Rattle.runs.specs.Over.{over}
 use Rattle.pack.specs.Fixed.{itemCap}
 use Rattle.pack.specs.Slots.{slot}
+use Rattle.pack.specs.Made.{made}
 use Rattle.pack.specs.declared.Name.{Name}
 use Rattle.pack.specs.declared.Name.the-variants.{Label, Number}
 use Rattle.pack.specs.declared.Payload.{Payload}
@@ -71,6 +72,10 @@ slotAt s at = slot (slotItem s at)
 
 abbrev pub slotsIn : List ℕ → List Slot
 slotsIn s = cells slotAt 8 itemCap s
+
+-- an array that is the numbers of its slots, one after the other: no other array holds the same slots in this way
+abbrev pub Exact : List ℕ → Type 0
+Exact s = s ≡ made itemNumbers (slotsIn s)
 
 -- a Sync's two numbers have 16 bits
 abbrev pub ItemNarrow : Item → Type 0

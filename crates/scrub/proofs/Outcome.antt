@@ -74,7 +74,7 @@ shown-answer (refused why place) = refl
 -- what an outline tells of a pack
 module _ (sheet s before : List ℕ) (x : Asked) (good : Good sheet x) {shows : Outline} {held tags places : List ℕ} (o : Outlined s shows held tags places) where
   told-answer : shows .answer ≡ answered (λ (r : Read). countOf (r .body .parts)) (reading s)
-  told-answer = ap (λ (y : Outline). y .answer) (o .told) ∙ shown-answer (reading s)
+  told-answer = ap (λ (r : Reading). r .answer) (o .whole) ∙ shown-answer (reading s)
 
   pub pack-refused : (why : Refusal) (place : ℕ) → shows .answer ≡ A.Refused why place → Scrubs sheet s before (A.Refused why place) before
   unfolding scrubbed andThen answered leaves
@@ -86,7 +86,7 @@ module _ (sheet s before : List ℕ) (x : Asked) (good : Good sheet x) {shows : 
   unfolding shown
   pack-accepted n h =
       let d = done-of (λ (r : Read). countOf (r .body .parts)) (reading s) (sym h ∙ told-answer) in
-      let e = o .whole n h ∙ ap shown (d .1) in
+      let e = o .whole ∙ ap shown (d .1) in
       record {
         read = d .0;
         is = d .1;

@@ -9,13 +9,12 @@ use lib.ListN.{length, take}
 use Rattle.pack.specs.Payloads.{innerAt}
 use Rattle.pack.specs.declared.Found.the-variants.{Whole}
 use Rattle.pack.proofs.Payloads.{inner-within}
-use Rattle.pack_slots.specs.Slots.{slotsIn}
 use Rattle.pack_read.proofs.Listing.{Filling, filling-begins, filling-on, filling-ends, filling-stops}
 use Rattle.pack_read.proofs.read_inside.Statement.{statement}
 use Rattle.pack_read.proofs.read_inside.Tie as tie
 
 abbrev Inv-loop : tie.InvT-loop
-Inv-loop q base used mapped tags known slots₀ k₀ j₀ slots k j = (fuel : ℕ) → length q ≤ fuel → Filling q (take mapped tags) base fuel used (slotsIn slots₀) (slotsIn slots) k j
+Inv-loop q base used mapped tags known slots₀ k₀ j₀ slots k j = (fuel : ℕ) → length q ≤ fuel → Filling q (take mapped tags) base fuel used slots₀ slots k j
 
 abbrev μ-loop : tie.MeasureT-loop
 μ-loop q base used mapped tags known slots₀ k₀ j₀ slots k j = length q - j
@@ -29,7 +28,7 @@ whole : (c : tie.After-found2 Inv-loop μ-loop) → Whole-at c
 whole c = sym (c .before .before .inner-at .ensures) ∙ c .found2 .given .1
 
 loop-holds : tie.Need-loop-holds Inv-loop μ-loop
-loop-holds c = λ fuel h. filling-begins _ _ _ _ _ _ (c .before .pre .0) h
+loop-holds c = λ fuel h. filling-begins _ _ _ _ _ _ (c .before .pre .0) h (c .before .pre .4)
 
 add-refuse : tie.Need-add-refuse Inv-loop μ-loop
 add-refuse c = omega (arith, c .before .before .before .before .before .before .before .pre .1, c .before .before .before .before .loop-test .taken)
@@ -66,7 +65,7 @@ loop-less c = let w = inner-within _ _ _ _ _ _ (whole (c .before .before .before
 loop-again : tie.Need-loop-again Inv-loop μ-loop
 loop-again c =
     let f = c .before .before .before .before in
-    λ fuel h. filling-on (f .before .before .before .before .loop .inv fuel h) (f .before .before .before .loop-test .taken) (whole f) (c .before .before .payload .ensures) (c .put .ensures .slots)
+    λ fuel h. filling-on (f .before .before .before .before .loop .inv fuel h) (f .before .before .before .loop-test .taken) (whole f) (c .before .before .payload .ensures) (c .put .ensures)
 
 returns-2 : tie.Need-returns-2 Inv-loop μ-loop
 returns-2 c = filling-ends (c .before .loop .inv) (c .loop-test .left)

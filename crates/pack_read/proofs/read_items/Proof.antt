@@ -8,15 +8,13 @@ use Rattle.pack.specs.declared.Step.the-variants as S
 use Rattle.pack.proofs.Payloads.{plain-fits, open-fits, close-ends}
 use Rattle.pack_read.proofs.Coming.{coming-ends, coming-bad, coming-good, coming-crc, sync-refused, sync-some, sync-none, inside-long, inside-part}
 use Rattle.pack_read.proofs.Listing.{Listing, listing-begins, tells-refused, tells-done, listing-plain, listing-sync}
-use Rattle.pack_slots.specs.Slots.{slotsIn}
-use Rattle.pack_slots.proofs.Laws.{slots-none}
 use Prim.Native.Nat.{_-_}
 use lib.ListN.{length, take}
 use Rattle.pack_read.proofs.read_items.Statement.{statement}
 use Rattle.pack_read.proofs.read_items.Tie as tie
 
 abbrev Inv-loop : tie.InvT-loop
-Inv-loop s from offset mapped tags known slots₀ n₀ at₀ slots n at = Listing s (take mapped tags) from (slotsIn slots) n at
+Inv-loop s from offset mapped tags known slots₀ n₀ at₀ slots n at = Listing s (take mapped tags) from slots n at
 
 abbrev μ-loop : tie.MeasureT-loop
 μ-loop s from offset mapped tags known slots₀ n₀ at₀ slots n at = length s - at
@@ -49,13 +47,13 @@ opens : (c : tie.After-step4 Inv-loop μ-loop) → Open-at c
 opens c = sym (c .before .before .item-at .ensures) ∙ c .step4 .given .1
 
 loop-holds : tie.Need-loop-holds Inv-loop μ-loop
-loop-holds c = listing-begins _ _ _ (ap slotsIn (c .before .pre .3) ∙ slots-none)
+loop-holds c = listing-begins _ _ _ (c .before .pre .3)
 
 returns : tie.Need-returns Inv-loop μ-loop
 returns c =
     let f = c .before .before in
     let l = f .before .before .before in
-    tells-refused _ _ _ _ (coming-bad (l .before .loop .inv .coming) (l .loop-test .taken) (sym (f .before .before .item-at .ensures) ∙ f .step .given .1)) (c .stopped .ensures)
+    tells-refused _ _ _ _ (coming-bad (l .before .loop .inv .coming) (l .loop-test .taken) (sym (f .before .before .item-at .ensures) ∙ f .step .given .1)) (c .stopped .ensures) (l .before .loop .inv .exact)
 
 crc-good-requires : tie.Need-crc-good-requires Inv-loop μ-loop
 crc-good-requires c κs = omega (arith, close-ends _ _ _ _ (closes (c .before)))
@@ -74,7 +72,7 @@ returns-3 : tie.Need-returns-3 Inv-loop μ-loop
 returns-3 c =
     let f = c .before .before .before .before in
     let l = f .before .before .before in
-    tells-refused _ _ _ _ (coming-crc (l .before .loop .inv .coming) (l .loop-test .taken) (closes f) (sym (c .before .before .crc-good .ensures) ∙ c .before .if1 .left)) (c .stopped2 .ensures)
+    tells-refused _ _ _ _ (coming-crc (l .before .loop .inv .coming) (l .loop-test .taken) (closes f) (sym (c .before .before .crc-good .ensures) ∙ c .before .if1 .left)) (c .stopped2 .ensures) (l .before .loop .inv .exact)
 
 payload-requires : tie.Need-payload-requires Inv-loop μ-loop
 payload-requires c κs =
@@ -98,7 +96,7 @@ loop-again : tie.Need-loop-again Inv-loop μ-loop
 loop-again c =
     let p = c .before .before .before .before in
     let l = p .before .before .before in
-    listing-plain (l .before .loop .inv) (l .loop-test .taken) (plain p) (c .before .before .payload .ensures) (c .put .ensures .slots)
+    listing-plain (l .before .loop .inv) (l .loop-test .taken) (plain p) (c .before .before .payload .ensures) (c .put .ensures)
 
 add-base : tie.Need-add-base Inv-loop μ-loop
 add-base c = let f = open-fits _ _ _ _ _ (opens (c .before)) in omega (arith, f .0 .inside, f .1, c .before .before .before .before .before .before .before .pre .0)
@@ -126,21 +124,21 @@ read-inside-requires c κs =
     let s = now (a .args .s) in
     let v = o .step4 .given .0 .0 in
     let l = o .step4 .given .0 .1 .0 in
-    (omega (arith, f .0 .room), omega (arith, ap length (inside-part s v l), inside-long s v l (f .0 .inside) (f .1), f .0 .inside, a .pre .0), a .pre .1, a .pre .2)
+    (omega (arith, f .0 .room), omega (arith, ap length (inside-part s v l), inside-long s v l (f .0 .inside) (f .1), f .0 .inside, a .pre .0), a .pre .1, a .pre .2, o .before .before .before .before .loop .inv .exact)
 
 returns-4 : tie.Need-returns-4 Inv-loop μ-loop
 returns-4 c =
     let k = c .before .before .before .before in
     let o = k .before .before .before .before in
     let l = o .before .before .before in
-    tells-refused _ _ _ _ (sync-refused (l .before .loop .inv .coming) (l .loop-test .taken) (opens o) (k .read-inside .ensures .inside) (c .before .before .inside .given .1)) (c .stopped3 .ensures)
+    tells-refused _ _ _ _ (sync-refused (l .before .loop .inv .coming) (l .loop-test .taken) (opens o) (k .read-inside .ensures .inside) (c .before .before .inside .given .1)) (c .stopped3 .ensures) (k .read-inside .ensures .exact)
 
 returns-5 : tie.Need-returns-5 Inv-loop μ-loop
 returns-5 c =
     let k = c .before .before .before .before .before in
     let o = k .before .before .before .before in
     let l = o .before .before .before in
-    tells-refused _ _ _ _ (sync-none (l .before .loop .inv .coming) (l .loop-test .taken) (opens o) (k .read-inside .ensures .inside) (c .before .before .before .inside2 .given .1) (c .before .if2 .taken)) (c .stopped4 .ensures)
+    tells-refused _ _ _ _ (sync-none (l .before .loop .inv .coming) (l .loop-test .taken) (opens o) (k .read-inside .ensures .inside) (c .before .before .before .inside2 .given .1) (c .before .if2 .taken)) (c .stopped4 .ensures) (k .read-inside .ensures .exact)
 
 sub-head : tie.Need-sub-head Inv-loop μ-loop
 sub-head c =
@@ -171,7 +169,7 @@ loop-again-2 c =
     let k = c .before .before .before .before .before .before .before in
     let o = k .before .before .before .before in
     let l = o .before .before .before in
-    listing-sync (l .before .loop .inv) (l .loop-test .taken) (opens o) (k .read-inside .ensures) (c .before .before .before .before .before .inside2 .given .1) (c .before .before .before .if2 .left) (c .before .before .head .ensures) (c .put2 .ensures .slots)
+    listing-sync (l .before .loop .inv) (l .loop-test .taken) (opens o) (k .read-inside .ensures) (c .before .before .before .before .before .inside2 .given .1) (c .before .before .before .if2 .left) (c .before .before .head .ensures) (c .put2 .ensures)
 
 done-requires-2 : tie.Need-done-requires-2 Inv-loop μ-loop
 done-requires-2 c κs = c .before .before .before .pre .1 .few

@@ -61,7 +61,7 @@ shown : (k : tie.After-known-told Inv-loop μ-loop) → Rows (known (reader k) .
 shown k =
     let b = known (reader k) in
     let h = k .before .answer .given .1 in
-    rows-shown (b .before .args .pack .now) (b .before .args .out .now) (bytes b) (found (reader k)) (reader k .read-into .ensures .whole _ h) _ h
+    rows-shown (b .before .args .pack .now) (b .before .args .out .now) (bytes b) (found (reader k)) (reader k .read-into .ensures .whole) _ h
 
 -- what is left where the loop goes on: the numbers of the next row, then the others
 left : (c : tie.In-loop Inv-loop μ-loop)
@@ -90,7 +90,7 @@ returns-2 c =
     let r = reader (c .before) in
     let b = known r in
     let h = c .before .before .answer .given .1 in
-    rows-noroom (b .before .args .pack .now) (b .before .args .out .now) (bytes b) (found r) (r .read-into .ensures .whole _ h) _ h (omega (arith, c .if1 .taken))
+    rows-noroom (b .before .args .pack .now) (b .before .args .out .now) (bytes b) (found r) (r .read-into .ensures .whole) _ h (omega (arith, c .if1 .taken))
 
 loop-holds : tie.Need-loop-holds Inv-loop μ-loop
 loop-holds c =
@@ -136,7 +136,7 @@ returns-3 c =
     let f = found r in
     let h = k .before .answer .given .1 in
     let m = length-take-le (count k) (f .items) (shown k .there) in
-    rows-done (b .before .args .pack .now) (b .before .args .out .now) (bytes b) f (r .read-into .ensures .whole (count k) h) (count k) h
+    rows-done (b .before .args .pack .now) (b .before .args .out .now) (bytes b) f (r .read-into .ensures .whole) (count k) h
     (omega (arith, w .before .if1 .left)) (wrote-as (w .pack-row .ensures) (p .put-cell .ensures))
     (writing-done (writing-as (made-none (itemRow (f .labels)) (take (count k) (f .items)) (l .i) (omega arith)) (l .inv .1)))
 
