@@ -62,10 +62,11 @@ knows-none t h = sym (ap (λ (k : ℕ). indexed k t) (getD-replicate 128 t 0 0 h
 pub tables-none : {tags places known : List ℕ} → Empty tags places known → Tables [] tags places known
 tables-none e = record { tagged = e .tagged; placed = e .placed; index = subst (Knows []) (sym (e .index)) knows-none; indexes = ap length (e .index); few = omega arith }
 
--- a walk that is refused says nothing of the tables; they are empty then, or hold the mappings
+-- a walk that is refused says nothing of the tables
 pub walk-refused : {o : Outcome (List Mapping)} {why : Refusal} {p : ℕ} {r : Answer} {us vs ws : List ℕ} → o ≡ refused why p → r ≡ A.Refused why p → MapsWalked o r us vs ws
 walk-refused e q = record { count = answers length e q; tables = λ ms d. absurd-eq (cc) }
 
+-- the mappings are read where the tables are empty after a refusal, or the walk came to their end
 module _ {o : Outcome (List Mapping)} {us vs ws : List ℕ} where
   pub read-refused : {why : Refusal} {p : ℕ} {r : Answer} → o ≡ refused why p → r ≡ A.Refused why p → Empty us vs ws → MapsRead o r us vs ws
   read-refused e q n = record { count = answers length e q; tables = subst (λ (x : Outcome (List Mapping)). Tables (mapsOf x) us vs ws) (sym e) (tables-none n) }

@@ -60,7 +60,7 @@ pub record Tables (ms : List Mapping) (tags places known : List ℕ) : Type 0 wh
   pub indexes : length known ≡ 128
   pub few : length ms ≤ mappingCap
 
--- what the walk over the mappings gives: how many there are, or the refusal; and where it ends, the tables hold them
+-- what the walk over the mappings gives: how many there are, or the refusal; and where it comes to their end, the tables hold them
 pub record MapsWalked (o : Outcome (List Mapping)) (answer : Answer) (tags places known : List ℕ) : Type 0 where
   pub count : answer ≡ answered length o
   pub tables : (ms : List Mapping) → o ≡ fine ms → Tables ms tags places known

@@ -34,19 +34,19 @@ use Rattle.pack_read.specs.declared.Outline.{Outline}
 use Rattle.pack_read.proofs.Slots.{innerSlot, slots-more, sets-padded, sets-snoc, sets-before}
 
 -- the payloads of a Sync so far stand in the array from slot `used` on
-pub record Filling (q tags : List ℕ) (base fuel used : ℕ) (before now : List ℕ) (k j : ℕ) : Type 0 where
+pub record Filling (q tags : List ℕ) (base fuel used : ℕ) (before held : List ℕ) (k j : ℕ) : Type 0 where
   pub xs : List Payload
   pub inside : WithinSync q tags base fuel used xs k j
-  pub full : slotsIn now ≡ sets (slotsIn before) used (map innerSlot xs)
-  pub exact : Exact now
+  pub full : slotsIn held ≡ sets (slotsIn before) used (map innerSlot xs)
+  pub exact : Exact held
 
 pub filling-begins : (q tags : List ℕ) (base fuel used : ℕ) (before : List ℕ) → used ≤ 64 → length q ≤ fuel → Exact before → Filling q tags base fuel used before before used 0
 filling-begins q tags base fuel used before h g e = record { xs = []; inside = inside-begins q tags base fuel used h g; full = refl; exact = e }
 
-pub filling-on : {q tags : List ℕ} {base fuel used : ℕ} {before now : List ℕ} {k j t v l : ℕ} {x : Payload} → Filling q tags base fuel used before now k j
-    → j < length q → innerAt q j k ≡ Whole t v l → x ≡ payload tags (base + j) t (base + v) l → {after : List ℕ} → Slotted now k (I.Inner x) after
+pub filling-on : {q tags : List ℕ} {base fuel used : ℕ} {before held : List ℕ} {k j t v l : ℕ} {x : Payload} → Filling q tags base fuel used before held k j
+    → j < length q → innerAt q j k ≡ Whole t v l → x ≡ payload tags (base + j) t (base + v) l → {after : List ℕ} → Slotted held k (I.Inner x) after
     → Filling q tags base fuel used before after (k + 1) (v + l)
-filling-on {q} {tags} {base} {fuel} {used} {before} {now} {k} {j} {t} {v} {l} {x} g h e i put = record {
+filling-on {q} {tags} {base} {fuel} {used} {before} {held} {k} {j} {t} {v} {l} {x} g h e i put = record {
   xs = g .xs ++ (payload tags (base + j) t (base + v) l ∷ []);
   inside = inside-on (g .inside) h e;
   full =
@@ -59,11 +59,11 @@ filling-on {q} {tags} {base} {fuel} {used} {before} {now} {k} {j} {t} {v} {l} {x
 }
 
 -- what is told when the loop over an inside is through, and where it stops
-module _ {q tags : List ℕ} {base used : ℕ} {before now : List ℕ} {k j : ℕ} (g : (fuel : ℕ) → length q ≤ fuel → Filling q tags base fuel used before now k j) where
+module _ {q tags : List ℕ} {base used : ℕ} {before held : List ℕ} {k j : ℕ} (g : (fuel : ℕ) → length q ≤ fuel → Filling q tags base fuel used before held k j) where
   some : (fuel : ℕ) → length q ≤ fuel → SomeWithin q tags base fuel used k j
   some fuel h = record { xs = g fuel h .xs; inside = g fuel h .inside }
 
-  pub filling-ends : length q ≤ j → InsideRead q tags base used (A.Done k) before now
+  pub filling-ends : length q ≤ j → InsideRead q tags base used (A.Done k) before held
   filling-ends z = record {
     inside = inside-done some z;
     full = λ fuel xs h e.
@@ -74,7 +74,7 @@ module _ {q tags : List ℕ} {base used : ℕ} {before now : List ℕ} {k j : �
     exact = g (length q) (omega arith) .exact;
   }
 
-  pub filling-stops : j < length q → {why : Refusal} → innerAt q j k ≡ Wrong why → {r : Answer} → r ≡ A.Refused why (base + j) → InsideRead q tags base used r before now
+  pub filling-stops : j < length q → {why : Refusal} → innerAt q j k ≡ Wrong why → {r : Answer} → r ≡ A.Refused why (base + j) → InsideRead q tags base used r before held
   filling-stops h e i = record {
     inside = inside-refused some h e i;
     full = λ fuel xs l d. let o = inside-stops (g fuel l .inside) h e in absurd-eq (cc);

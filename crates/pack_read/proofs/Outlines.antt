@@ -23,7 +23,7 @@ unfolding shown
 answer-refused (fine x) e = absurd-eq (cc)
 answer-refused (refused why p) e = cc
 
--- an outline that tells a refusal, and arrays that are empty
+-- an outline that tells a refusal, and empty arrays, are what is read of a pack that is refused
 pub outlined-empty : {s : List ℕ} {r : Outline} {slots tags places : List ℕ} {why : Refusal} {p : ℕ} → r ≡ outlineOf (shown (reading s)) → r .answer ≡ A.Refused why p
     → (slots ≡ replicate 512 0) × (tags ≡ replicate 32 0) × (places ≡ replicate 32 0) → Outlined s r slots tags places
 unfolding shown

@@ -73,7 +73,7 @@ slotAt s at = slot (slotItem s at)
 abbrev pub slotsIn : List ℕ → List Slot
 slotsIn s = cells slotAt 8 itemCap s
 
--- an array that is the numbers of its slots, one after the other: no other array holds the same slots in this way
+-- the array is the numbers of its slots, one after the other, so that they tell all of it
 abbrev pub Exact : List ℕ → Type 0
 Exact s = s ≡ made itemNumbers (slotsIn s)
 
