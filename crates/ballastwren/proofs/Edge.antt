@@ -32,7 +32,7 @@ pub told-apart : (a b : Answer) → toldOf a ≡ toldOf b → a ≡ b
 told-apart a b e = numbers.told-apart a b (same-told a b e)
 
 -- number 0 tells a count, any other a refusal
-done-told : (a : Answer) → (toldOf a) .number ≡ 0 → a ≡ A.Done ((toldOf a) .value)
+pub done-told : (a : Answer) → (toldOf a) .number ≡ 0 → a ≡ A.Done ((toldOf a) .value)
 done-told (A.Done n) e = refl
 done-told (A.Refused why place) e =
     let never = told-apart (A.Refused why place) (A.Done place) (ap (λ (n : ℕ). record { number = n; value = place }) e) in absurd-eq (cc)
@@ -69,7 +69,7 @@ leaves-unchanged before why place = refused-same before (refused why place) why 
 -- what stands at the front of the run after a success
 front : {o : Outcome (List ℕ)} {before after : List ℕ} {t : Told} → Lends toldOf lent (within (length before) o) before t after → t .number ≡ 0
     → (xs : List ℕ) × (o ≡ fine xs) × (take (t .value) after ≡ xs)
-unfolding lent take
+unfolding lent
 front {o} {before} x zero =
     let d = outcome-done x zero in
     let xs = d .0 in

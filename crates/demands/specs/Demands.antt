@@ -1,31 +1,26 @@
 -- Trusted. The demands of document 01, of what C is told by one or two calls and of what the lent runs hold afterwards.
 use mathlib.Core.Path.{_≡_}
 use mathlib.Core.List.{List}
-use Prim.Native.Nat.{ℕ, _≤_}
+use Prim.Native.Nat.{ℕ, _+_, _*_, _<_, _≤_}
+use lib.IntN.{pos, _-ℤ_}
 use lib.ListN.{length, take}
 use Rattle.runs.specs.Over.{over}
 use Rattle.refusals.specs.Outcomes.{fine}
-use Rattle.pack.specs.Reading.{Read, reading}
+use Rattle.pack.specs.Reading.{Read, reading, checked}
 use Rattle.pack.specs.Meaning.{meant}
 use Rattle.scrub_kept.specs.Sheet.{Sheet, sheetOf}
 use Rattle.scrub_kept.specs.Kept.{keptItems, kept}
 use Rattle.scrub_kept.specs.Scrubbed.{ReadsAs}
+use Rattle.pmd.specs.Gain.{levelOf}
 use Rattle.ballastwren.specs.declared.Told.{Told}
-use Rattle.ballastwren.specs.Told.{BwRead}
+use Rattle.ballastwren.specs.declared.ToldGain.{ToldGain}
+use Rattle.ballastwren.specs.Told.{toldOf, toldGainOf, BwRead, BwScrub, BwPmdRead, BwPmdWrite}
 
--- Demand 3, first half: two accepted packs s and t with equal offsets and the same kept items scrub under one sheet into buffers of equal length to the
--- same answer and, on success, to equal whole buffers
-abbrev pub SameKept : List ℕ → List ℕ → List ℕ → List ℕ → List ℕ → Told → List ℕ → Told → List ℕ → Type 0
-SameKept sheet s t before other a us b vs =
-    (sh : Sheet) (r q : Read) → sheetOf sheet ≡ fine sh → reading s ≡ fine r → reading t ≡ fine q
-    → (meant s r) .offset ≡ (meant t q) .offset → keptItems sh ((meant s r) .items) ≡ keptItems sh ((meant t q) .items)
-    → length before ≡ length other → (a ≡ b) × (a .number ≡ 0 → us ≡ vs)
+-- THE DEMANDS
 
--- Demand 3, second half: reading the written pack gives exactly the offset, the kept payloads and their Syncs; and its rows are what C reads then
-abbrev pub ReadBack : List ℕ → List ℕ → List ℕ → Told → List ℕ → Told → List ℕ → Type 0
-ReadBack sheet s run a out b rows =
-    (sh : Sheet) (r : Read) → sheetOf sheet ≡ fine sh → reading s ≡ fine r → a .number ≡ 0
-    → ReadsAs (take (a .value) out) (kept sh (meant s r)) × BwRead (take (a .value) out) run b rows
+-- Demand 1: where a refusal is told, by any number but 0, no lent byte or number has changed
+abbrev pub Unchanged : Told → List ℕ → List ℕ → Type 0
+Unchanged a before after = (a .number ≡ 0 → ⊥) → after ≡ before
 
 -- Demand 2: writing the fields read from an accepted value gives that value back, whenever both buffers have room
 abbrev pub ValueBack : List ℕ → List ℕ → Told → Told → List ℕ → Type 0
@@ -35,3 +30,69 @@ ValueBack value before a b out = a .number ≡ 0 → length value ≤ length bef
 abbrev pub FieldsBack : List ℕ → List ℕ → Told → Told → List ℕ → Type 0
 FieldsBack numbers before a b run =
     a .number ≡ 0 → length numbers ≤ length before → (b ≡ record { number = 0; value = length numbers }) × (run ≡ over before 0 numbers)
+
+-- Demand 3, first half: two accepted packs s and t with equal offsets and the same kept items scrub under one sheet into buffers of equal length to the
+-- same answer and, on success, to equal whole buffers
+abbrev pub SameKept : List ℕ → List ℕ → List ℕ → List ℕ → List ℕ → Told → List ℕ → Told → List ℕ → Type 0
+SameKept sheet s t before other a us b vs =
+    (sh : Sheet) (r q : Read) → sheetOf sheet ≡ fine sh → reading s ≡ fine r → reading t ≡ fine q
+    → (meant s r) .offset ≡ (meant t q) .offset → keptItems sh ((meant s r) .items) ≡ keptItems sh ((meant t q) .items)
+    → length before ≡ length other → (a ≡ b) × (a .number ≡ 0 → us ≡ vs)
+
+-- Demand 3, second half: reading the written pack gives exactly the offset, the kept payloads and their Syncs
+abbrev pub ReadBack : List ℕ → List ℕ → Told → List ℕ → Type 0
+ReadBack sheet s a out =
+    (sh : Sheet) (r : Read) → sheetOf sheet ≡ fine sh → reading s ≡ fine r → a .number ≡ 0 → ReadsAs (take (a .value) out) (kept sh (meant s r))
+
+-- WHAT EACH FUNCTION PROMISES
+-- Each record says which calls were made, of what, and the demands that they meet.
+
+-- the second of two calls: made where the first succeeds; where that is refused its answer stands for both, and the second run is as it was
+pub record Next (Call : Told → List ℕ → Type 0) (run : List ℕ) (a b : Told) (end : List ℕ) : Type 0 where
+  pub made : a .number ≡ 0 → Call b end
+  pub omitted : (a .number ≡ 0 → ⊥) → (b ≡ a) × (end ≡ run)
+
+-- scrub_two: s and t are scrubbed by one sheet
+pub record ScrubTwo (sheet s t before other : List ℕ) (a : Told) (us : List ℕ) (b : Told) (vs : List ℕ) : Type 0 where
+  pub first : BwScrub sheet s before a us
+  pub second : BwScrub sheet t other b vs
+  pub unchanged : Unchanged a before us × Unchanged b other vs
+  pub same : SameKept sheet s t before other a us b vs
+
+-- scrub_and_read: s is scrubbed, and what was written is read
+pub record ScrubAndRead (sheet s before run : List ℕ) (a : Told) (out : List ℕ) (b : Told) (rows : List ℕ) : Type 0 where
+  pub first : BwScrub sheet s before a out
+  pub second : Next (BwRead (take (a .value) out) run) run a b rows
+  pub unchanged : Unchanged a before out × Unchanged b run rows
+  pub back : ReadBack sheet s a out
+
+-- read_and_write: the fields of a value are read and written again
+pub record ReadAndWrite (kind : ℕ) (value before run : List ℕ) (a : Told) (numbers : List ℕ) (b : Told) (out : List ℕ) : Type 0 where
+  pub first : BwPmdRead kind value before a numbers
+  pub second : Next (BwPmdWrite kind (take (a .value) numbers) run) run a b out
+  pub unchanged : Unchanged a before numbers × Unchanged b run out
+  pub back : ValueBack value run a b out
+
+-- write_and_read: numbers are written as a value, and that is read
+pub record WriteAndRead (kind : ℕ) (numbers before run : List ℕ) (a : Told) (value : List ℕ) (b : Told) (fields : List ℕ) : Type 0 where
+  pub first : BwPmdWrite kind numbers before a value
+  pub second : Next (BwPmdRead kind (take (a .value) value) run) run a b fields
+  pub unchanged : Unchanged a before value × Unchanged b run fields
+  pub back : FieldsBack numbers run a b fields
+
+-- check_and_read: a pack is checked and read. A refusal of the check is the reading's; else there are eight numbers for the pack and for each item and
+-- inner payload that was counted, and NOROOM is told exactly where the run is shorter
+pub record CheckAndRead (pack run : List ℕ) (a b : Told) (rows : List ℕ) : Type 0 where
+  pub first : a ≡ toldOf (checked pack)
+  pub second : BwRead pack run b rows
+  pub unchanged : Unchanged b run rows
+  pub refused : (a .number ≡ 0 → ⊥) → b ≡ a
+  pub room : a .number ≡ 0 → 8 * (1 + a .value) ≤ length run → b ≡ record { number = 0; value = 8 * (1 + a .value) }
+  pub noRoom : a .number ≡ 0 → length run < 8 * (1 + a .value) → b ≡ record { number = 15; value = 0 }
+
+-- tell_gain: a gain is muted at 0, else gain minus 51 in half decibels; above 63 it is FIELD
+pub record TellGain (gain : ℕ) (t : ToldGain) : Type 0 where
+  pub call : t ≡ toldGainOf (levelOf gain)
+  pub muted : gain ≡ 0 → t ≡ record { number = 0; muted = 1; «half_db» = pos 0 }
+  pub level : 0 < gain → gain ≤ 63 → t ≡ record { number = 0; muted = 0; «half_db» = pos gain -ℤ pos 51 }
+  pub refused : 63 < gain → t ≡ record { number = 17; muted = 0; «half_db» = pos 0 }

@@ -1,7 +1,8 @@
-// The demands of document 01 as functions over what C calls: each calls exports, and its contract is the demand. An export that promised less than a
-// demand needs would leave its function here without a proof.
-ghost use Rattle.demands.specs.Demands.{SameKept, ReadBack, ValueBack, FieldsBack};
+// The demands of document 01 as functions over what C calls: each calls exports, and its contract says which, of what, and the demands that they meet.
+// An export that promised less would leave its function here without a proof.
+ghost use Rattle.demands.specs.Demands.{ScrubTwo, ScrubAndRead, ReadAndWrite, WriteAndRead, CheckAndRead, TellGain};
 use ballastwren::Told;
+use ballastwren::ToldGain;
 
 // What two calls tell, one after the other.
 pub struct Two {
@@ -11,7 +12,7 @@ pub struct Two {
 
 // Scrubs two packs by one sheet, each into a buffer of its own.
 pub fn scrub_two(sheet: &[u8], pack: &[u8], other: &[u8], out: &mut [u8], again: &mut [u8]) -> Two
-    ensures { λ r. ⌜ SameKept (now (sheet .entry)) (now (pack .entry)) (now (other .entry)) (now (out .entry)) (now (again .entry)) (r .first) (now (out .exit)) (r .second) (now (again .exit)) ⌝ }
+    ensures { λ r. ⌜ ScrubTwo (now (sheet .entry)) (now (pack .entry)) (now (other .entry)) (now (out .entry)) (now (again .entry)) (r .first) (now (out .exit)) (r .second) (now (again .exit)) ⌝ }
 {
     let first = ballastwren::bw_scrub(sheet, pack, &mut *out);
     let second = ballastwren::bw_scrub(sheet, other, &mut *again);
@@ -20,7 +21,7 @@ pub fn scrub_two(sheet: &[u8], pack: &[u8], other: &[u8], out: &mut [u8], again:
 
 // Scrubs a pack and reads what was written. Where nothing was, the second answer is the first.
 pub fn scrub_and_read(sheet: &[u8], pack: &[u8], out: &mut [u8], rows: &mut [u32]) -> Two
-    ensures { λ r. ⌜ ReadBack (now (sheet .entry)) (now (pack .entry)) (now (rows .entry)) (r .first) (now (out .exit)) (r .second) (now (rows .exit)) ⌝ }
+    ensures { λ r. ⌜ ScrubAndRead (now (sheet .entry)) (now (pack .entry)) (now (out .entry)) (now (rows .entry)) (r .first) (now (out .exit)) (r .second) (now (rows .exit)) ⌝ }
 {
     let first = ballastwren::bw_scrub(sheet, pack, &mut *out);
     if first.number != 0 {
@@ -36,7 +37,7 @@ pub fn scrub_and_read(sheet: &[u8], pack: &[u8], out: &mut [u8], rows: &mut [u32
 
 // Reads the fields of a value and writes them again. Where they were not read, the second answer is the first.
 pub fn read_and_write(kind: u32, value: &[u8], numbers: &mut [u32], out: &mut [u8]) -> Two
-    ensures { λ r. ⌜ ValueBack (now (value .entry)) (now (out .entry)) (r .first) (r .second) (now (out .exit)) ⌝ }
+    ensures { λ r. ⌜ ReadAndWrite kind (now (value .entry)) (now (numbers .entry)) (now (out .entry)) (r .first) (now (numbers .exit)) (r .second) (now (out .exit)) ⌝ }
 {
     let first = ballastwren::bw_pmd_read(kind, value, &mut *numbers);
     if first.number != 0 {
@@ -52,7 +53,7 @@ pub fn read_and_write(kind: u32, value: &[u8], numbers: &mut [u32], out: &mut [u
 
 // Writes a list of numbers as a value and reads that. Where it was not written, the second answer is the first.
 pub fn write_and_read(kind: u32, numbers: &[u32], out: &mut [u8], run: &mut [u32]) -> Two
-    ensures { λ r. ⌜ FieldsBack (now (numbers .entry)) (now (run .entry)) (r .first) (r .second) (now (run .exit)) ⌝ }
+    ensures { λ r. ⌜ WriteAndRead kind (now (numbers .entry)) (now (out .entry)) (now (run .entry)) (r .first) (now (out .exit)) (r .second) (now (run .exit)) ⌝ }
 {
     let first = ballastwren::bw_pmd_write(kind, numbers, &mut *out);
     if first.number != 0 {
@@ -64,4 +65,20 @@ pub fn write_and_read(kind: u32, numbers: &[u32], out: &mut [u8], run: &mut [u32
     let n = first.value as usize;
     let second = ballastwren::bw_pmd_read(kind, &out[0..n], &mut *run);
     Two { first, second }
+}
+
+// Checks a pack, and reads it.
+pub fn check_and_read(pack: &[u8], rows: &mut [u32]) -> Two
+    ensures { λ r. ⌜ CheckAndRead (now (pack .entry)) (now (rows .entry)) (r .first) (r .second) (now (rows .exit)) ⌝ }
+{
+    let first = ballastwren::bw_check(pack);
+    let second = ballastwren::bw_read(pack, &mut *rows);
+    Two { first, second }
+}
+
+// Tells what a gain means.
+pub fn tell_gain(gain: u32) -> ToldGain
+    ensures { λ r. ⌜ TellGain gain r ⌝ }
+{
+    ballastwren::bw_gain(gain)
 }

@@ -5,7 +5,8 @@ use mathlib.Core.Path.{_≡_, sym, ap, subst, _∙_}
 use mathlib.Core.Bool.{true, false, cond}
 use mathlib.Core.List.{List, [], _∷_, _++_, map, List·Memᴰ, List·Nodup}
 use mathlib.Core.Logic.{_⊎_}
-use Prim.Native.Nat.{ℕ, _+_, _-_, _<_, _≤_, _^_}
+use Prim.Native.Nat.{ℕ, _+_, _-_, _*_, _<_, _≤_, _^_}
+use lib.IntN.{pos, _-ℤ_}
 use lib.ListN.{length, take, drop, replicate}
 use Rattle.runs.specs.Digits.{Bytes, digits}
 use Rattle.runs.specs.Over.{over, Wrote}
@@ -65,6 +66,7 @@ use Rattle.refusals.specs.Lent.{within, Delivered}
 use Rattle.pmd.specs.Gain.{levelOf}
 use Rattle.pmd.specs.declared.Level.{Level}
 use Rattle.pmd.proofs.RoundTrips as trips
+use Rattle.pmd.proofs.Levels as levels
 use Rattle.pmd.proofs.One as gains
 use Rattle.pmd_read.proofs.One as pmd-reads
 use Rattle.pmd_write.proofs.One as pmd-writes
@@ -332,6 +334,25 @@ pmd-write-unchanged kind numbers {before} x = edge.unchanged x (edge.lent-unchan
 -- `bw_read` never writes more than 520 numbers, which is what the header calls BW_ROWS_MAX.
 pub rows-most : (pack : List ℕ) {before after : List ℕ} {a : Told} → Bytes pack → BwRead pack before a after → a .number ≡ 0 → a .value ≤ 520
 rows-most = most.rows-most
+
+-- A refusal of `bw_check` is that of `bw_read`. Where it counts, `bw_read` writes eight numbers for the pack and for each item and inner payload, and
+-- tells NOROOM exactly where the run is shorter.
+pub check-then-read : (pack : List ℕ) {before after : List ℕ} {a b : Told} → a ≡ toldOf (checked pack) → BwRead pack before b after
+    → ((a .number ≡ 0 → ⊥) → b ≡ a)
+    × (a .number ≡ 0 → 8 * (1 + a .value) ≤ length before → b ≡ record { number = 0; value = 8 * (1 + a .value) })
+    × (a .number ≡ 0 → length before < 8 * (1 + a .value) → b ≡ record { number = 15; value = 0 })
+check-then-read = most.check-then-read
+
+-- `bw_gain` tells a gain muted at 0, else gain minus 51 in half decibels; a gain above 63 is FIELD, number 17.
+pub gain-levels : (gain : ℕ) {t : ToldGain} → t ≡ toldGainOf (levelOf gain)
+    → (gain ≡ 0 → t ≡ record { number = 0; muted = 1; «half_db» = pos 0 })
+    × (0 < gain → gain ≤ 63 → t ≡ record { number = 0; muted = 0; «half_db» = pos gain -ℤ pos 51 })
+    × (63 < gain → t ≡ record { number = 17; muted = 0; «half_db» = pos 0 })
+gain-levels gain x = (
+  λ none. x ∙ ap toldGainOf (levels.level-muted gain none),
+  λ some few. x ∙ ap toldGainOf (levels.level-half gain some few),
+  λ big. x ∙ ap toldGainOf (levels.level-refused gain big),
+)
 
 -- Two outcomes of an export on the same input coincide: the numbers that C is told, and every lent run and buffer to its last element.
 

@@ -3,7 +3,8 @@ use denote.Ref.{now}
 use borrow.Author.Needs.{needs}
 use Rattle.runs.specs.Digits.{Bytes}
 use Rattle.pmd.specs.Reading.{fieldsRead}
-use Rattle.demands.proofs.Parts.{lent-part, value-back}
+use Rattle.demands.proofs.Calls.{read-refused, read-then-write}
+use Rattle.demands.proofs.Parts.{lent-part}
 use Rattle.demands.proofs.read_and_write.Statement.{statement}
 use Rattle.demands.proofs.read_and_write.Tie as tie
 
@@ -11,7 +12,7 @@ bytes : (c : tie.After-shared-slice-known) → Bytes (now (c .before .args .valu
 bytes c k = c .shared-slice-known .given k .fits
 
 returns : tie.Need-returns
-returns c zero room = absurd (c .if1 .taken zero)
+returns c = let read = c .before .before .before .before in read-refused _ _ (read .bw-pmd-read .ensures) (c .if1 .taken)
 
 part-end : tie.Need-part-bw-pmd-write-end
 part-end c =
@@ -25,7 +26,7 @@ returns-2 c =
     let read = wrote .before .before .before .before .before .before .before .before in
     let given = read .before .before .before .before in
     let a = given .before .args in
-    value-back (a .kind) (now (a .value)) (bytes given) (read .bw-pmd-read .ensures) (wrote .before .before .before .before .if1 .left) (wrote .bw-pmd-write .ensures)
+    read-then-write (a .kind) (now (a .value)) (read .bw-pmd-read .ensures) (bytes given) (wrote .before .before .before .before .if1 .left) (wrote .bw-pmd-write .ensures)
 
 pub read-and-write-spec : {M : Type 1} → statement M
 read-and-write-spec =

@@ -4,7 +4,8 @@ use lib.ListN.{length}
 use borrow.Author.Needs.{needs}
 use Rattle.runs.specs.Digits.{Bytes}
 use Rattle.scrub_kept.specs.Scrubbed.{scrubbed}
-use Rattle.demands.proofs.Parts.{leaves-part, read-back}
+use Rattle.demands.proofs.Calls.{scrub-refused, scrub-then-read}
+use Rattle.demands.proofs.Parts.{leaves-part}
 use Rattle.demands.proofs.scrub_and_read.Statement.{statement}
 use Rattle.demands.proofs.scrub_and_read.Tie as tie
 
@@ -12,7 +13,7 @@ bytes : (c : tie.After-shared-slice-known2) → Bytes (now (c .before .before .a
 bytes c k = c .shared-slice-known2 .given k .fits
 
 returns : tie.Need-returns
-returns c sh r named accepted zero = absurd (c .if1 .taken zero)
+returns c = let wrote = c .before .before .before .before in scrub-refused _ _ (wrote .bw-scrub .ensures) (c .if1 .taken)
 
 part-end : tie.Need-part-bw-read-end
 part-end c =
@@ -26,7 +27,7 @@ returns-2 c =
     let wrote = read .before .before .before .before .before .before .before .before in
     let given = wrote .before .before .before .before in
     let a = given .before .before .args in
-    read-back (now (a .sheet)) (now (a .pack)) (bytes given) (wrote .bw-scrub .ensures) (read .bw-read .ensures)
+    scrub-then-read (now (a .sheet)) (now (a .pack)) (wrote .bw-scrub .ensures) (bytes given) (read .before .before .before .before .if1 .left) (read .bw-read .ensures)
 
 pub scrub-and-read-spec : {M : Type 1} → statement M
 scrub-and-read-spec =

@@ -2,12 +2,13 @@
 use denote.Ref.{now}
 use borrow.Author.Needs.{needs}
 use Rattle.pmd.specs.Writing.{fieldsWritten}
-use Rattle.demands.proofs.Parts.{lent-part, fields-back}
+use Rattle.demands.proofs.Calls.{write-refused, write-then-read}
+use Rattle.demands.proofs.Parts.{lent-part}
 use Rattle.demands.proofs.write_and_read.Statement.{statement}
 use Rattle.demands.proofs.write_and_read.Tie as tie
 
 returns : tie.Need-returns
-returns c zero room = absurd (c .if1 .taken zero)
+returns c = let wrote = c .before .before .before .before in write-refused _ _ (wrote .bw-pmd-write .ensures) (c .if1 .taken)
 
 part-end : tie.Need-part-bw-pmd-read-end
 part-end c =
@@ -20,7 +21,7 @@ returns-2 c =
     let read = c .before .before in
     let wrote = read .before .before .before .before .before .before .before .before in
     let a = wrote .before .before .before .before .before .args in
-    fields-back (a .kind) (now (a .numbers)) (wrote .bw-pmd-write .ensures) (read .before .before .before .before .if1 .left) (read .bw-pmd-read .ensures)
+    write-then-read (a .kind) (now (a .numbers)) (wrote .bw-pmd-write .ensures) (read .before .before .before .before .if1 .left) (read .bw-pmd-read .ensures)
 
 pub write-and-read-spec : {M : Type 1} → statement M
 write-and-read-spec =

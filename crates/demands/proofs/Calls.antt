@@ -1,0 +1,108 @@
+-- The calls of each function meet the demands, by the page of promises: where both are made, and where the first is refused.
+use mathlib.Core.Path.{_≡_, refl, subst}
+use mathlib.Core.List.{List}
+use Prim.Native.Nat.{ℕ, _-_}
+use native.Mathlib.Omega.{arith}
+use lib.ListN.{take}
+use Rattle.runs.specs.Digits.{Bytes}
+use Rattle.pack.specs.Reading.{checked}
+use Rattle.pmd.specs.Gain.{levelOf}
+use Rattle.ballastwren.specs.Told.{toldOf, toldGainOf, BwRead, BwScrub, BwPmdRead, BwPmdWrite}
+use Rattle.ballastwren.specs.declared.Told.{Told}
+use Rattle.ballastwren.specs.declared.ToldGain.{ToldGain}
+use Rattle.promises.proofs.Promises as promises
+use Rattle.demands.specs.Demands.{Next, ScrubTwo, ScrubAndRead, ReadAndWrite, WriteAndRead, CheckAndRead, TellGain}
+
+-- THE SECOND CALL
+
+module _ (Call : Told → List ℕ → Type 0) {run : List ℕ} {a : Told} where
+  made : {b : Told} {end : List ℕ} → a .number ≡ 0 → Call b end → Next Call run a b end
+  made zero y = record { made = λ z. y; omitted = λ h. absurd (h zero) }
+
+  omitted : (a .number ≡ 0 → ⊥) → Next Call run a a run
+  omitted h = record { made = λ z. absurd (h z); omitted = λ g. (refl, refl) }
+
+-- the part from 0 on
+from-start : (n : ℕ) → n - 0 ≡ n
+from-start n = omega arith
+
+-- PACKS
+
+pub scrub-two : (sheet s t : List ℕ) {before other us vs : List ℕ} {a b : Told} → BwScrub sheet s before a us → BwScrub sheet t other b vs
+    → ScrubTwo sheet s t before other a us b vs
+scrub-two sheet s t x y = record {
+  first = x;
+  second = y;
+  unchanged = (promises.refused-unchanged sheet s x, promises.refused-unchanged sheet t y);
+  same = λ sh r q named accepted also offsets items lengths. promises.same-kept-same-buffer sheet s sh r named accepted t q also offsets items lengths x y;
+}
+
+module _ (sheet s : List ℕ) {before out run : List ℕ} {a : Told} (x : BwScrub sheet s before a out) where
+  pub scrub-refused : (a .number ≡ 0 → ⊥) → ScrubAndRead sheet s before run a out a run
+  scrub-refused h = record {
+    first = x;
+    second = omitted (BwRead (take (a .value) out) run) h;
+    unchanged = (promises.refused-unchanged sheet s x, λ g. refl);
+    back = λ sh r named accepted zero. absurd (h zero);
+  }
+
+  pub scrub-then-read : {b : Told} {rows : List ℕ} → Bytes s → a .number ≡ 0 → BwRead (take (a .value - 0) out) run b rows
+      → ScrubAndRead sheet s before run a out b rows
+  scrub-then-read {b} {rows} bytes zero part =
+      let y = subst (λ (n : ℕ). BwRead (take n out) run b rows) (from-start (a .value)) part in
+      record {
+        first = x;
+        second = made (BwRead (take (a .value) out) run) zero y;
+        unchanged = (promises.refused-unchanged sheet s x, promises.read-unchanged (take (a .value) out) y);
+        back = λ sh r named accepted done. promises.read-back sheet s sh r named accepted bytes x done;
+      }
+
+pub check-then-read : (pack : List ℕ) {run rows : List ℕ} {a b : Told} → a ≡ toldOf (checked pack) → BwRead pack run b rows → CheckAndRead pack run a b rows
+check-then-read pack x y =
+    let told = promises.check-then-read pack x y in
+    record { first = x; second = y; unchanged = promises.read-unchanged pack y; refused = told .0; room = told .1; noRoom = told .2 }
+
+-- PMD VALUES
+
+module _ (kind : ℕ) (value : List ℕ) {before numbers run : List ℕ} {a : Told} (x : BwPmdRead kind value before a numbers) where
+  pub read-refused : (a .number ≡ 0 → ⊥) → ReadAndWrite kind value before run a numbers a run
+  read-refused h = record {
+    first = x;
+    second = omitted (BwPmdWrite kind (take (a .value) numbers) run) h;
+    unchanged = (promises.pmd-read-unchanged kind value x, λ g. refl);
+    back = λ zero room. absurd (h zero);
+  }
+
+  pub read-then-write : {b : Told} {out : List ℕ} → Bytes value → a .number ≡ 0 → BwPmdWrite kind (take (a .value - 0) numbers) run b out
+      → ReadAndWrite kind value before run a numbers b out
+  read-then-write {b} {out} bytes zero part =
+      let y = subst (λ (n : ℕ). BwPmdWrite kind (take n numbers) run b out) (from-start (a .value)) part in
+      record {
+        first = x;
+        second = made (BwPmdWrite kind (take (a .value) numbers) run) zero y;
+        unchanged = (promises.pmd-read-unchanged kind value x, promises.pmd-write-unchanged kind (take (a .value) numbers) y);
+        back = λ done. promises.bw-read-then-write kind value bytes x done y;
+      }
+
+module _ (kind : ℕ) (numbers : List ℕ) {before value run : List ℕ} {a : Told} (x : BwPmdWrite kind numbers before a value) where
+  pub write-refused : (a .number ≡ 0 → ⊥) → WriteAndRead kind numbers before run a value a run
+  write-refused h = record {
+    first = x;
+    second = omitted (BwPmdRead kind (take (a .value) value) run) h;
+    unchanged = (promises.pmd-write-unchanged kind numbers x, λ g. refl);
+    back = λ zero room. absurd (h zero);
+  }
+
+  pub write-then-read : {b : Told} {fields : List ℕ} → a .number ≡ 0 → BwPmdRead kind (take (a .value - 0) value) run b fields
+      → WriteAndRead kind numbers before run a value b fields
+  write-then-read {b} {fields} zero part =
+      let y = subst (λ (n : ℕ). BwPmdRead kind (take n value) run b fields) (from-start (a .value)) part in
+      record {
+        first = x;
+        second = made (BwPmdRead kind (take (a .value) value) run) zero y;
+        unchanged = (promises.pmd-write-unchanged kind numbers x, promises.pmd-read-unchanged kind (take (a .value) value) y);
+        back = λ done. promises.bw-write-then-read kind numbers x done y;
+      }
+
+pub tell-gain : (gain : ℕ) {t : ToldGain} → t ≡ toldGainOf (levelOf gain) → TellGain gain t
+tell-gain gain x = let told = promises.gain-levels gain x in record { call = x; muted = told .0; level = told .1; refused = told .2 }
