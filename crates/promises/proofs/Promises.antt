@@ -2,7 +2,7 @@
 -- cites. A pack, a sheet, a value and a lent buffer are lists of bytes; `Bytes s` says that each element of s is below 256. The definitions that
 -- the statements use stand in the specs/ folders, and the contract of each function says that it computes them.
 use mathlib.Core.Path.{_≡_, sym, ap, subst, _∙_}
-use mathlib.Core.Bool.{true, false, cond}
+use mathlib.Core.Bool.{Bool, true, false, cond, _||_}
 use mathlib.Core.List.{List, [], _∷_, _++_, map, List·Memᴰ, List·Nodup}
 use mathlib.Core.Logic.{_⊎_}
 use Prim.Native.Nat.{ℕ, _+_, _-_, _*_, _<_, _≤_, _^_}
@@ -49,9 +49,8 @@ use Rattle.runs.proofs.Those.{those-pass}
 use Rattle.scrub_kept.specs.Sheet.{Sheet, sheetOf}
 use Rattle.scrub_kept.specs.Kept.{keptItems, kept}
 use Rattle.scrub_kept.specs.Placed.{Placed, grouped, placed, onSheet, HasPayload, namedBy}
-use Rattle.scrub_kept.specs.Written.{numbersIn, labelsIn, free, described, written}
+use Rattle.scrub_kept.specs.Written.{numbersIn, labelsIn, described, written}
 use Rattle.scrub_kept.specs.Scrubbed.{scrubbed, leaves, ReadsAs}
-use Rattle.scrub_kept.proofs.Free as numbers
 use Rattle.scrub_kept.proofs.Labels as labels
 use Rattle.scrub_kept.proofs.Mappings as mappings
 use Rattle.scrub_kept.proofs.Described.{described-entries, described-bare}
@@ -238,10 +237,6 @@ kept-whole = keeping.kept-placed
 pub kept-in-place : (sh : Sheet) (xs : List SaidItem) → (grouped (keptItems sh xs) ≡ namedBy sh xs) × Each HasPayload (keptItems sh xs)
 kept-in-place sh xs = (keeping.kept-grouped sh xs, keeping.kept-hold sh xs)
 
--- The number that a label is mapped to is from 64 up, is not taken, and every smaller number from 64 up is taken.
-pub free-least : (taken : List ℕ) → (64 ≤ free taken) × (among (free taken) taken ≡ false) × ((m : ℕ) → 64 ≤ m → m < free taken → among m taken ≡ true)
-free-least taken = (numbers.free-range taken .0, numbers.free-new taken, numbers.free-smallest taken)
-
 module _ (k : Said) where
   -- No label is mapped but that of a kept payload.
   pub mapped-only : Each (λ (m : Entry). List·Memᴰ (label (m .stands)) (names (k .items))) (entriesLaid ((described k) .first))
@@ -250,6 +245,12 @@ module _ (k : Said) where
   -- Labels are mapped as `labelsIn` lists them, in order of first appearance.
   pub mapped-in-order : map (λ (m : Entry). m .stands) (entriesLaid ((described k) .first)) ≡ labelsIn [] (names (k .items))
   mapped-in-order = rw described-entries (mappings.entries-order (names (k .items)))
+
+  -- The tag that a label is mapped to is the smallest number from 64 up that is neither a kept payload's number name nor the tag of an earlier mapping.
+  pub free-least : (before : List Entry) (m : Entry) (after : List Entry) → entriesLaid ((described k) .first) ≡ before ++ (m ∷ after)
+      → let taken : ℕ → Bool = λ n. among n (numbersIn (names (k .items))) || among n (map (λ (e : Entry). e .tag) before) in
+      (64 ≤ m .tag) × (taken (m .tag) ≡ false) × ((n : ℕ) → 64 ≤ n → n < m .tag → taken n ≡ true)
+  free-least before m after e = mappings.entries-least (names (k .items)) before m after (sym (described-entries k) ∙ e)
 
   -- With at most 64 kept payloads, and of an accepted pack no more are kept, every label gets a tag from 64 to 127 that is no payload's number name,
   -- and no tag is given twice.

@@ -1,17 +1,17 @@
 -- The mappings that are written: each label gets a tag of its own that is no number name, and under these mappings the tag that a name is
 -- written with means that name.
 use mathlib.Core.Path.{_≡_, refl, sym, ap, subst, _∙_}
-use mathlib.Core.List.{List, [], _∷_, List·Memᴰ, List·Memᴰ·head, List·Memᴰ·tail, List·Memᴰ·not-nil, List·Nodup, Pairwise·nil, nodup-cons}
+use mathlib.Core.List.{List, [], _∷_, _++_, List·Memᴰ, List·Memᴰ·head, List·Memᴰ·tail, List·Memᴰ·not-nil, List·Nodup, Pairwise·nil, nodup-cons}
 use mathlib.Core.Logic.{∥∥₁-elim}
 use mathlib.Core.HLevel.{⊥-prop}
-use mathlib.Core.Bool.{true, false}
+use mathlib.Core.Bool.{true, false, _||_}
 use Prim.Native.Nat.{ℕ, suc, _+_, _<_, _≤_}
 use native.Mathlib.Omega.{arith}
 use lib.ListN.{length}
 use lib.Dec.{eqb}
 use borrow.Author.Tests.{eq-eqb, eqb-true}
 use Rattle.runs.specs.Same.{same, among, listed}
-use Rattle.runs.proofs.Cases.{split}
+use Rattle.runs.proofs.Cases.{split, absurd-eq}
 use Rattle.runs.proofs.Same.{same-true}
 use Rattle.pack.specs.Said.{label, number}
 use Rattle.pack_layout.specs.Layout.{Entry, entryFor}
@@ -19,8 +19,8 @@ use Rattle.pack_layout.proofs.Entries.{entryTags, entryLabels}
 use Rattle.runs.specs.Those.{Each}
 use Rattle.scrub_kept.specs.Written.{free, assigned, tagFor}
 use Rattle.runs.proofs.Those.{each-map}
-use Rattle.scrub_kept.proofs.Listed.{never, among-here, among-more, among-none}
-use Rattle.scrub_kept.proofs.Free.{free-new, free-range}
+use Rattle.scrub_kept.proofs.Listed.{never, or-moved, among-here, among-more, among-none}
+use Rattle.scrub_kept.proofs.Free.{free-new, free-range, free-smallest}
 
 -- no number is among those after it
 abbrev pub Apart : List ℕ → Type 0
@@ -70,6 +70,37 @@ unfolding assigned
 assigned-apart taken [] = search
 assigned-apart taken (l ∷ ls) =
     (assigned-new (free taken) (free taken ∷ taken) ls (among-here (free taken) taken), assigned-apart (free taken ∷ taken) ls)
+
+-- each is the smallest number from 64 up that is neither taken nor the tag of an earlier mapping
+abbrev Least : List ℕ → List ℕ → ℕ → Type 0
+Least taken earlier t =
+    (64 ≤ t) × (among t taken || among t earlier ≡ false) × ((n : ℕ) → 64 ≤ n → n < t → among n taken || among n earlier ≡ true)
+
+least-moved : (a : ℕ) (taken earlier : List ℕ) (t : ℕ) → Least (a ∷ taken) earlier t → Least taken (a ∷ earlier) t
+unfolding among
+least-moved a taken earlier t h =
+    let moved : (n : ℕ) → among n taken || among n (a ∷ earlier) ≡ among n (a ∷ taken) || among n earlier =
+    λ n. sym (or-moved (eqb a n) (among n taken) (among n earlier)) in
+    (h .0, moved t ∙ h .1, λ n from less. moved n ∙ h .2 n from less)
+
+least-free : (taken : List ℕ) → Least taken [] (free taken)
+unfolding among
+least-free taken = (free-range taken .0, simp (free-new taken), λ n from less. simp (free-smallest taken n from less))
+
+pub assigned-least : (taken : List ℕ) (ls : List (List ℕ)) (before : List Entry) (m : Entry) (after : List Entry)
+    → assigned taken ls ≡ before ++ (m ∷ after)
+    → (64 ≤ m .tag) × (among (m .tag) taken || among (m .tag) (entryTags before) ≡ false)
+    × ((n : ℕ) → 64 ≤ n → n < m .tag → among n taken || among n (entryTags before) ≡ true)
+unfolding assigned
+assigned-least taken [] [] m after e = absurd-eq (cc)
+assigned-least taken [] (x ∷ before) m after e = absurd-eq (cc)
+assigned-least taken (l ∷ ls) [] m after e =
+    let first : record { tag = free taken; stands = l } ≡ m = cc in subst (Least taken []) (ap (λ (x : Entry). x .tag) first) (least-free taken)
+assigned-least taken (l ∷ ls) (x ∷ before) m after e =
+    let first : record { tag = free taken; stands = l } ≡ x = cc in
+    let rest : assigned (free taken ∷ taken) ls ≡ before ++ (m ∷ after) = cc in
+    subst (λ (t : ℕ). Least taken (t ∷ entryTags before) (m .tag)) (ap (λ (y : Entry). y .tag) first)
+    (least-moved (free taken) taken (entryTags before) (m .tag) (assigned-least (free taken ∷ taken) ls before m after rest))
 
 -- tags run from 64 up, and only as far as there are numbers taken and labels
 abbrev pub Reaches : ℕ → ℕ → Type 0
