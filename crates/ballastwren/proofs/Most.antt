@@ -1,4 +1,4 @@
--- How many numbers the rows of a pack are: as many as a check counts items and inner payloads, and the pack's; and how many at the most.
+-- How many numbers the rows of a pack are, by what a check counts, and at the most; and how many are read from a PMD value at the most.
 use mathlib.Core.Path.{_≡_, refl, sym, ap, subst, _∙_}
 use mathlib.Core.List.{List}
 use Prim.Native.Nat.{ℕ, _+_, _*_, _<_, _≤_}
@@ -20,7 +20,9 @@ use Rattle.pack.proofs.Slots.{slots-count}
 use Rattle.pack_layout.proofs.Bounds.{reading-bounds}
 use Rattle.pack_rows.specs.Rows.{packRow, itemRow, rowsOf, rowsRead}
 use Rattle.pack_rows.proofs.Laws.{length-rows}
-use Rattle.ballastwren.specs.Told.{toldOf, BwRead}
+use Rattle.pmd.specs.Reading.{fieldsRead}
+use Rattle.pmd.proofs.Few.{fields-few}
+use Rattle.ballastwren.specs.Told.{toldOf, BwRead, BwPmdRead}
 use Rattle.ballastwren.specs.declared.Told.{Told}
 use Rattle.ballastwren.proofs.Edge.{done-told, outcome-done}
 
@@ -45,6 +47,13 @@ rows-few s bytes xs e =
 pub rows-most : (pack : List ℕ) {before after : List ℕ} {t : Told} → Bytes pack → BwRead pack before t after → t .number ≡ 0 → t .value ≤ 520
 rows-most pack {before} bytes x zero =
     let d = outcome-done x zero in omega (arith, d .2, rows-few pack bytes (d .0) (within-fine (length before) (rowsRead pack) (d .0) (d .1) .0))
+
+-- THE NUMBERS OF A VALUE
+
+pub pmd-numbers-most : (kind : ℕ) (value : List ℕ) {before after : List ℕ} {t : Told} → BwPmdRead kind value before t after → t .number ≡ 0 → t .value ≤ 5461
+pmd-numbers-most kind value {before} x zero =
+    let d = outcome-done x zero in
+    omega (arith, d .2, fields-few kind value (d .0) (within-fine (length before) (fieldsRead kind value) (d .0) (d .1) .0))
 
 -- A CHECK TELLS WHAT A READING TELLS
 
