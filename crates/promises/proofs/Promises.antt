@@ -31,11 +31,15 @@ use Rattle.crc.specs.Crc.{crcOf}
 use Rattle.crc.proofs.Serial as serial
 use Rattle.pack.specs.Fixed.{packCap}
 use Rattle.pack.specs.Said.{SaidName, label, number, SaidItem, Said, names}
+use Rattle.pack.specs.Payloads.{innersFrom}
+use Rattle.pack.specs.Items.{itemsFrom}
+use Rattle.pack.specs.Config.{mappingsFrom}
 use Rattle.pack.specs.Reading.{Read, reading, checked}
 use Rattle.pack.specs.Slots.{shown}
 use Rattle.pack.specs.Meaning.{meant, valueOf, labelAt}
 use Rattle.pack.specs.declared.Payload.{Payload}
 use Rattle.pack.specs.declared.Reading.{Reading}
+use Rattle.pack.proofs.Fuel as fuel
 use Rattle.pack_read.proofs.One as reader
 use Rattle.pack_text.specs.Text.{listing}
 use Rattle.pack_text.proofs.One as listings
@@ -123,6 +127,14 @@ reading-sound = sound.reading-sound
 -- The layout of every well-formed description is accepted, and its reading means what the description says.
 pub reading-complete : (d : Description) → WellFormed d → Complete d
 reading-complete = complete.reading-complete
+
+-- Reading goes through the items of a pack, the payloads inside a Sync and the mappings of a Config by steps, of which it has one for each byte there is.
+-- Those are enough: with any more, each comes to the same.
+pub fuel-enough : (s tags : List ℕ) (more at v l used : ℕ)
+    → (length s ≤ more → itemsFrom more s tags at used ≡ itemsFrom (length s) s tags at used)
+    × (l ≤ more → innersFrom more (take (l - 4) (drop (v + 4) s)) tags (v + 4) 0 used ≡ innersFrom l (take (l - 4) (drop (v + 4) s)) tags (v + 4) 0 used)
+    × (l ≤ more → mappingsFrom more (take (v + l) s) at [] (v + 2) ≡ mappingsFrom l (take (v + l) s) at [] (v + 2))
+fuel-enough = fuel.fuel-enough
 
 -- Every payload of an accepted pack, those inside Syncs too, stands where its reading says that it starts: its tag, a form of its length, and its value,
 -- which is the very stretch that the reading speaks of; so does every Sync with its two numbers, and every label of a mapping.
