@@ -7,11 +7,13 @@ use native.Mathlib.Numerals.{add-one}
 use native.Mathlib.Omega.{arith}
 use lib.ListN.{length, set, take, drop, replicate, length-append, length-map}
 use lib.Seq.{sets}
+use Rattle.runs.specs.Cells.{Puts}
 use Rattle.runs.proofs.Cases.{absurd-eq}
 use Rattle.refusals.specs.declared.Refusal.{Refusal}
 use Rattle.refusals.specs.declared.Answer.{Answer}
 use Rattle.refusals.specs.declared.Answer.the-variants as A
 use Rattle.refusals.specs.Outcomes.{Outcome, fine, refused}
+use Rattle.pack.specs.Fixed.{itemCap}
 use Rattle.pack.specs.Payloads.{innerAt, payload}
 use Rattle.pack.specs.Items.{Part, one, many, Body, itemAt, syncHead, itemsFrom}
 use Rattle.pack.specs.Slots.{slot, slots, blank, padded, shown}
@@ -26,7 +28,7 @@ use Rattle.pack.proofs.Payloads.{inner-within, plain-fits, open-fits}
 use Rattle.pack.proofs.Slots.{slots-count}
 use Rattle.pack_read.proofs.Inside.{WithinSync, SomeWithin, inside-begins, inside-ends, inside-stops, inside-on, inside-done, inside-refused}
 use Rattle.pack_read.proofs.Coming.{Coming, coming-begins, coming-plain, sync-on, inside-part, inside-enough}
-use Rattle.pack_slots.specs.Slots.{slotsIn, Exact, Slotted}
+use Rattle.pack_slots.specs.Slots.{slotAt, slotsIn, slotNumbers, Exact}
 use Rattle.pack_slots.proofs.Laws.{exact-put, slots-none, exact-none}
 use Rattle.pack_read.specs.Shown.{outlineOf, assembled}
 use Rattle.pack_read.specs.Steps.{InsideRead, shownBody, doneOf, BodyTold}
@@ -44,14 +46,14 @@ pub filling-begins : (q tags : List ℕ) (base fuel used : ℕ) (before : List �
 filling-begins q tags base fuel used before h g e = record { xs = []; inside = inside-begins q tags base fuel used h g; full = refl; exact = e }
 
 pub filling-on : {q tags : List ℕ} {base fuel used : ℕ} {before held : List ℕ} {k j t v l : ℕ} {x : Payload} → Filling q tags base fuel used before held k j
-    → j < length q → innerAt q j k ≡ Whole t v l → x ≡ payload tags (base + j) t (base + v) l → {after : List ℕ} → Slotted held k (I.Inner x) after
+    → j < length q → innerAt q j k ≡ Whole t v l → x ≡ payload tags (base + j) t (base + v) l → {after : List ℕ} → Puts slotAt slotNumbers 8 itemCap held k (slot (I.Inner x)) after
     → Filling q tags base fuel used before after (k + 1) (v + l)
 filling-on {q} {tags} {base} {fuel} {used} {before} {held} {k} {j} {t} {v} {l} {x} g h e i put = record {
   xs = g .xs ++ (payload tags (base + j) t (base + v) l ∷ []);
   inside = inside-on (g .inside) h e;
   full =
       let m : used + length (map innerSlot (g .xs)) ≡ k = omega (arith, length-map (g .xs) innerSlot, g .inside .long) in
-      put .slots
+      put .held
       ∙ ap₂ (λ (a : List Slot) (y : Payload). set a k (innerSlot y)) (g .full) i
       ∙ sets-snoc (slotsIn before) used (map innerSlot (g .xs)) k (innerSlot (payload tags (base + j) t (base + v) l)) m
       ∙ ap (sets (slotsIn before) used) (sym (map-append innerSlot (g .xs) (payload tags (base + j) t (base + v) l ∷ [])));
@@ -119,16 +121,16 @@ module _ {s tags : List ℕ} {from : ℕ} {held : List ℕ} {n at : ℕ} (g : Li
 
   module _ (h : at < length s) where
     pub listing-plain : {t v l : ℕ} {x : Payload} → itemAt s at n ≡ S.Plain t v l → x ≡ payload tags at t v l → {after : List ℕ}
-        → Slotted held n (I.Single x) after → Listing s tags from after (n + 1) (v + l)
+        → Puts slotAt slotNumbers 8 itemCap held n (slot (I.Single x)) after → Listing s tags from after (n + 1) (v + l)
     unfolding slots
     listing-plain {t} {v} {l} e i put =
-        listing-on (one (payload tags at t v l)) (coming-plain (g .coming) h e) (put .slots ∙ ap (λ (y : Payload). set (slotsIn held) n (slot (I.Single y))) i)
+        listing-on (one (payload tags at t v l)) (coming-plain (g .coming) h e) (put .held ∙ ap (λ (y : Payload). set (slotsIn held) n (slot (I.Single y))) i)
         (exact-put (plain-fits s at n t v l e .room) put (g .exact))
 
     -- a Sync, by what is told of its inside, as the code cuts it
     pub listing-sync : {v l k : ℕ} (e : itemAt s at n ≡ S.Open v l) {r : Answer} {inner : List ℕ}
         (cut : InsideRead (take (v + l - (v + 4)) (drop (v + 4) s)) tags (v + 4) (n + 1) r held inner) → r ≡ A.Done k → (k ≡ n + 1 → ⊥) → {x : Head}
-        → x ≡ syncHead s at v l (k - (n + 1)) → {after : List ℕ} → Slotted inner n (I.Sync x) after → Listing s tags from after k (v + l)
+        → x ≡ syncHead s at v l (k - (n + 1)) → {after : List ℕ} → Puts slotAt slotNumbers 8 itemCap inner n (slot (I.Sync x)) after → Listing s tags from after k (v + l)
     unfolding slots
     listing-sync {v} {l} {k} e {r} {inner} cut d u y put =
         let o = sync-on (g .coming) h e (cut .inside) d u in
@@ -137,7 +139,7 @@ module _ {s tags : List ℕ} {from : ℕ} {held : List ℕ} {n at : ℕ} (g : Li
         let head = syncHead s at v l (length xs) in
         let reads = subst (λ (q : List ℕ). InsideRead q tags (v + 4) (n + 1) r held inner) (inside-part s v l) cut in
         listing-on (many head xs) (o .3)
-        (put .slots
+        (put .held
         ∙ ap₂ (λ (a : List Slot) (z : Head). set a n (slot (I.Sync z))) (reads .full l xs (inside-enough s at n v l e) (o .1)) (y ∙ ap (syncHead s at v l) some)
         ∙ sets-before (slotsIn held) (n + 1) n (map innerSlot xs) (slot (I.Sync head)) (omega arith)
         ∙ ap₂ (λ (z : ℕ) (ws : List Slot). sets (set (slotsIn held) n (slot (I.Sync head))) z ws) (add-one n) (sym (append-nil (map innerSlot xs))))

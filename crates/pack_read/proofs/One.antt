@@ -1,18 +1,19 @@
 -- Each public function admits one outcome, and a check answers what a reading answers.
 use Prim.Native.Nat.{ℕ}
-use mathlib.Core.Path.{_≡_, refl, sym, ap, _∙_}
+use mathlib.Core.Path.{_≡_, refl, ap}
 use mathlib.Core.List.{List}
 use Rattle.runs.proofs.Cases.{one}
+use Rattle.runs.proofs.Own.{own-one}
 use Rattle.refusals.specs.declared.Answer.{Answer}
 use Rattle.refusals.specs.Outcomes.{Outcome, fine, refused, answered}
+use Rattle.pack.specs.Fixed.{itemCap}
 use Rattle.pack.specs.Items.{countOf}
 use Rattle.pack.specs.Reading.{Read, reading, checked}
 use Rattle.pack.specs.Slots.{shown}
-use Rattle.pack.specs.Made.{made}
 use Rattle.pack.specs.Meaning.{valueOf, labelAt}
 use Rattle.pack.specs.declared.Payload.{Payload}
 use Rattle.pack.specs.declared.Reading.{Reading}
-use Rattle.pack_slots.specs.Slots.{itemNumbers}
+use Rattle.pack_slots.specs.Slots.{slotAt, slotNumbers}
 use Rattle.pack_read.specs.Shown.{outlineOf, Outlined}
 use Rattle.pack_read.specs.declared.Outline.{Outline}
 
@@ -25,7 +26,7 @@ pub outline-one : (s : List ℕ) (a b : Outline) (xs ts ps ys us qs : List ℕ) 
 outline-one s a b xs ts ps ys us qs g h =
     let w = one (g .whole) (h .whole) in (
       ap outlineOf w,
-      g .exact ∙ ap (λ (f : Reading). made itemNumbers (f .items)) w ∙ sym (h .exact),
+      own-one slotAt slotNumbers 8 itemCap (g .exact) (h .exact) (ap (λ (f : Reading). f .items) w),
       ap (λ (f : Reading). f .tags) w,
       ap (λ (f : Reading). f .labels) w,
     )

@@ -1,24 +1,22 @@
 -- What stands in a slot, what a store changes, an array that is the numbers of its slots, and one that holds nothing yet.
-use mathlib.Core.Path.{_≡_, refl, sym, ap, ap₂, _∙_}
-use mathlib.Core.List.{List, [], _∷_, _++_, append-assoc}
-use Prim.Native.Nat.{ℕ, zero, suc, _+_, _*_, _<_, _%_}
-use native.Mathlib.Nat.{zero-add, add-assoc}
+use mathlib.Core.Path.{_≡_, refl, ap, ap₂}
+use mathlib.Core.List.{List, [], _∷_}
+use Prim.Native.Nat.{ℕ, _+_, _*_, _<_, _%_}
 use native.Mathlib.Omega.{arith}
-use lib.ListN.{length, getD, set, take, drop, replicate}
-use lib.Seq.{take-append-add, drop-append-add, drop-append-seam}
+use lib.ListN.{length, getD, replicate}
 use Rattle.runs.specs.Over.{over}
-use Rattle.runs.specs.Cells.{cellsFrom}
-use Rattle.runs.proofs.Cells.{Local, local-first, length-cells, cell-at, cells-put}
+use Rattle.runs.specs.Cells.{cellsFrom, Puts}
+use Rattle.runs.proofs.Cells.{Local, local-first, length-cells, cell-at}
+use Rattle.runs.proofs.Own.{own-none, puts, own-put}
 use Rattle.pack.specs.Fixed.{itemCap}
 use Rattle.pack.specs.Slots.{slot, blank}
-use Rattle.pack.specs.Made.{made}
 use Rattle.pack.specs.declared.Name.{Name}
 use Rattle.pack.specs.declared.Name.the-variants.{Label, Number}
 use Rattle.pack.specs.declared.Payload.{Payload}
 use Rattle.pack.specs.declared.Item.{Item}
 use Rattle.pack.specs.declared.Item.the-variants.{Single, Sync, Inner}
 use Rattle.pack.specs.declared.Slot.{Slot}
-use Rattle.pack_slots.specs.Slots.{nameForm, nameNumber, payloadNumbers, itemNumbers, slotName, slotPayload, slotItem, slotAt, slotsIn, Exact, ItemNarrow, Slotted}
+use Rattle.pack_slots.specs.Slots.{nameForm, nameNumber, payloadNumbers, itemNumbers, slotName, slotPayload, slotItem, slotAt, slotsIn, slotNumbers, Exact, ItemNarrow}
 
 pub length-in : (s : List ℕ) → length (slotsIn s) ≡ 64
 length-in s = length-cells slotAt 8 itemCap s
@@ -64,44 +62,13 @@ item-eight (Inner x) = refl
 item-eight (Sync h) = refl
 
 -- a store of an item's numbers puts it into its slot, and no other changes
-pub slotted : (s : List ℕ) → length s ≡ 512 → (n : ℕ) → n < 64 → (x : Item) → ItemNarrow x → {after : List ℕ} → after ≡ over s (8 * n) (itemNumbers x) → Slotted s n x after
-slotted s long n h x narrow e = record {
-  numbers = e;
-  slots =
-      ap slotsIn e
-      ∙ cells-put slotAt 8 near itemCap s (omega (arith, long)) n h (itemNumbers x) (item-eight x) blank
-      ∙ ap (λ (y : Item). set (slotsIn s) n (slot y)) (item-back x narrow);
-}
-
--- THE NUMBERS OF SLOTS
-
-over-past : (xs ys : List ℕ) (k : ℕ) (zs : List ℕ) → over (xs ++ ys) (length xs + k) zs ≡ xs ++ over ys k zs
-unfolding over
-over-past xs ys k zs =
-    ap₂ (λ (a b : List ℕ). a ++ (zs ++ b)) (take-append-add xs ys k) (ap (λ (m : ℕ). drop m (xs ++ ys)) (add-assoc (length xs) k (length zs)) ∙ drop-append-add xs ys (k + length zs))
-    ∙ append-assoc xs (take k ys) (zs ++ drop (k + length zs) ys)
-
--- an item's numbers over those of the slot n are those of the item in that slot
-numbers-put : (ws : List Slot) (n : ℕ) (x : Item) → n < length ws → over (made itemNumbers ws) (8 * n) (itemNumbers x) ≡ made itemNumbers (set ws n (slot x))
-unfolding made over
-numbers-put [] n x h = absurd (omega arith)
-numbers-put (w ∷ ws) zero x h =
-    let ys = itemNumbers (w .item) in
-    ap (λ (m : ℕ). itemNumbers x ++ drop m (ys ++ made itemNumbers ws)) (zero-add (length (itemNumbers x)) ∙ item-eight x ∙ sym (item-eight (w .item)))
-    ∙ ap (λ (l : List ℕ). itemNumbers x ++ l) (drop-append-seam ys (made itemNumbers ws))
-numbers-put (w ∷ ws) (suc n) x h =
-    let ys = itemNumbers (w .item) in
-    let e : 8 * suc n ≡ length ys + 8 * n = omega (arith, item-eight (w .item)) in
-    ap (λ (m : ℕ). over (ys ++ made itemNumbers ws) m (itemNumbers x)) e ∙ over-past ys (made itemNumbers ws) (8 * n) (itemNumbers x)
-    ∙ ap (λ (l : List ℕ). ys ++ l) (numbers-put ws n x (omega arith))
+pub slotted : (s : List ℕ) → length s ≡ 512 → (n : ℕ) → n < 64 → (x : Item) → ItemNarrow x → {after : List ℕ} → after ≡ over s (8 * n) (itemNumbers x)
+    → Puts slotAt slotNumbers 8 itemCap s n (slot x) after
+slotted s long n h x narrow e = puts slotAt slotNumbers 8 itemCap near s (omega (arith, long)) n h (slot x) (item-eight x) (ap slot (item-back x narrow)) e
 
 -- an array that is the numbers of its slots stays so when an item is put into it
-pub exact-put : {s after : List ℕ} {n : ℕ} {x : Item} → n < 64 → Slotted s n x after → Exact s → Exact after
-exact-put {s} {after} {n} {x} h g e =
-    g .numbers ∙ ap (λ (l : List ℕ). over l (8 * n) (itemNumbers x)) e ∙ numbers-put (slotsIn s) n x (omega (arith, length-in s))
-    ∙ sym (ap (made itemNumbers) (g .slots))
-
--- AN EMPTY ARRAY
+pub exact-put : {s after : List ℕ} {n : ℕ} {x : Item} → n < 64 → Puts slotAt slotNumbers 8 itemCap s n (slot x) after → Exact s → Exact after
+exact-put = own-put slotAt slotNumbers 8 itemCap (λ w. item-eight (w .item))
 
 -- where all numbers are 0 every slot is blank, and the numbers of blank slots are 0
 pub slots-none : slotsIn (replicate 512 0) ≡ replicate 64 blank
@@ -109,5 +76,5 @@ unfolding cellsFrom slotItem slotName
 slots-none = refl
 
 pub exact-none : Exact (replicate 512 0)
-unfolding made itemNumbers
-exact-none = sym (ap (made itemNumbers) slots-none)
+unfolding itemNumbers
+exact-none = own-none slotAt slotNumbers 8 itemCap blank refl slots-none

@@ -1,15 +1,12 @@
 -- Inner. The slots of a reading as numbers, eight to a slot.
-use mathlib.Core.Path.{_≡_}
 use mathlib.Core.List.{List, [], _∷_}
 use mathlib.Core.Bool.{cond}
-use Prim.Native.Nat.{ℕ, _+_, _*_, _<_, _%_}
+use Prim.Native.Nat.{ℕ, _+_, _<_, _%_}
 use lib.Dec.{eqb}
-use lib.ListN.{getD, set}
-use Rattle.runs.specs.Cells.{cells}
-use Rattle.runs.specs.Over.{over}
+use lib.ListN.{getD}
+use Rattle.runs.specs.Cells.{cells, Own}
 use Rattle.pack.specs.Fixed.{itemCap}
 use Rattle.pack.specs.Slots.{slot}
-use Rattle.pack.specs.Made.{made}
 use Rattle.pack.specs.declared.Name.{Name}
 use Rattle.pack.specs.declared.Name.the-variants.{Label, Number}
 use Rattle.pack.specs.declared.Payload.{Payload}
@@ -73,18 +70,15 @@ slotAt s at = slot (slotItem s at)
 abbrev pub slotsIn : List ℕ → List Slot
 slotsIn s = cells slotAt 8 itemCap s
 
--- the array is the numbers of its slots, one after the other, so that they tell all of it
+-- the array is the numbers of its slots, so that they tell all of it
+abbrev pub slotNumbers : Slot → List ℕ
+slotNumbers w = itemNumbers (w .item)
+
 abbrev pub Exact : List ℕ → Type 0
-Exact s = s ≡ made itemNumbers (slotsIn s)
+Exact s = Own slotAt slotNumbers 8 itemCap s
 
 -- a Sync's two numbers have 16 bits
 abbrev pub ItemNarrow : Item → Type 0
 ItemNarrow (Single x) = Unit
 ItemNarrow (Inner x) = Unit
 ItemNarrow (Sync h) = (h .offset < 65536) × (h .duration < 65536)
-
--- what a store of an item into the slot n promises: its numbers stand there and no other number changes, so the array holds the slots that it held, with
--- the item in that one
-pub record Slotted (before : List ℕ) (n : ℕ) (x : Item) (after : List ℕ) : Type 0 where
-  pub numbers : after ≡ over before (8 * n) (itemNumbers x)
-  pub slots : slotsIn after ≡ set (slotsIn before) n (slot x)

@@ -3,8 +3,10 @@ ghost use mathlib.Core.Path.{_≡_};
 ghost use Prim.Native.Nat.{_+_, _*_, _<_, _≤_};
 ghost use lib.ListN.{length};
 ghost use Rattle.runs.specs.Over.{Wrote};
+ghost use Rattle.runs.specs.Cells.{Puts};
 ghost use Rattle.pack.specs.Fixed.{itemCap};
-ghost use Rattle.pack_slots.specs.Slots.{cellNumbers, payloadNumbers, itemNumbers, slotName, slotPayload, slotHead, slotItem, ItemNarrow, Slotted};
+ghost use Rattle.pack.specs.Slots.{slot};
+ghost use Rattle.pack_slots.specs.Slots.{cellNumbers, payloadNumbers, itemNumbers, slotName, slotPayload, slotHead, slotItem, slotAt, slotNumbers, ItemNarrow};
 use pack::Head;
 use pack::Item;
 use pack::Name;
@@ -89,7 +91,7 @@ fn item_cell(item: Item) -> Cell
 // Puts an item into the slot `n`.
 pub fn put(slots: &mut [u32; 512], n: usize, item: Item)
     requires { ⌜ n < itemCap ⌝ }
-    ensures { λ _. ⌜ Slotted (now (slots .entry)) n item (now (slots .exit)) ⌝ }
+    ensures { λ _. ⌜ Puts slotAt slotNumbers 8 itemCap (now (slots .entry)) n (slot item) (now (slots .exit)) ⌝ }
 {
     let cell = item_cell(item);
     put_cell(slots, 8 * n, cell);

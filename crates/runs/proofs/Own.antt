@@ -1,14 +1,14 @@
 -- An array that is the numbers of its own cells: one of zeros is, it stays one when a cell's numbers are stored, and no two have the same cells.
 use mathlib.Core.Path.{_≡_, refl, sym, ap, ap₂, _∙_}
 use mathlib.Core.List.{List, [], _∷_, _++_, append-assoc}
-use Prim.Native.Nat.{ℕ, zero, suc, _+_, _*_, _<_}
+use Prim.Native.Nat.{ℕ, zero, suc, _+_, _*_, _<_, _≤_}
 use native.Mathlib.Nat.{mul-zero, mul-suc}
 use native.Mathlib.Omega.{arith}
 use lib.ListN.{length, take, drop, set, replicate, replicate-append-replicate}
 use lib.Seq.{drop-at, take-append-add, drop-append-add}
 use Rattle.runs.specs.Over.{over}
-use Rattle.runs.specs.Cells.{cells, numbersOf, Own}
-use Rattle.runs.proofs.Cells.{length-cells}
+use Rattle.runs.specs.Cells.{cells, numbersOf, Puts, Own}
+use Rattle.runs.proofs.Cells.{Local, length-cells, cells-put}
 
 -- a run into what stands behind a front
 over-behind : (xs ys zs : List ℕ) (a : ℕ) → over (xs ++ ys) (length xs + a) zs ≡ xs ++ over ys a zs
@@ -51,12 +51,18 @@ module _ {A : Type 0} (read : List ℕ → ℕ → A) (put : A → List ℕ) (w 
   pub own-none : (d : A) → put d ≡ replicate w 0 → cells read w k (replicate (w * k) 0) ≡ replicate k d → Own read put w k (replicate (w * k) 0)
   own-none d e c = sym (ap (numbersOf put) c ∙ numbers-none put w k d e)
 
-  -- a cell's numbers stored over those of the cell n
-  pub own-put : ((x : A) → length (put x) ≡ w) → {s r : List ℕ} (n : ℕ) (x : A) → n < k → r ≡ over s (w * n) (put x)
-      → cells read w k r ≡ set (cells read w k s) n x → Own read put w k s → Own read put w k r
-  own-put wide {s} {r} n x h e c o =
+  -- a store of numbers from which the cell is read back
+  pub puts : Local read w → (s : List ℕ) → w * k ≤ length s → (n : ℕ) → n < k → (x : A) → length (put x) ≡ w → read (put x) 0 ≡ x → {r : List ℕ} → r ≡ over s (w * n) (put x)
+      → Puts read put w k s n x r
+  puts near s long n h x wide back e =
+      record { numbers = e; held = ap (cells read w k) e ∙ cells-put read w near k s long n h (put x) wide x ∙ ap (set (cells read w k s) n) back }
+
+  -- such a store into an array that is the numbers of its own cells
+  pub own-put : ((x : A) → length (put x) ≡ w) → {s r : List ℕ} {n : ℕ} {x : A} → n < k → Puts read put w k s n x r → Own read put w k s → Own read put w k r
+  own-put wide {s} {r} {n} {x} h p o =
       let l = length-cells read w k s in
-      e ∙ ap (λ (t : List ℕ). over t (w * n) (put x)) o ∙ sym (ap (numbersOf put) c ∙ numbers-set put w wide (cells read w k s) n x (omega arith))
+      p .numbers ∙ ap (λ (t : List ℕ). over t (w * n) (put x)) o
+      ∙ sym (ap (numbersOf put) (p .held) ∙ numbers-set put w wide (cells read w k s) n x (omega arith))
 
   -- the same cells are the same array
   pub own-one : {s t : List ℕ} → Own read put w k s → Own read put w k t → cells read w k s ≡ cells read w k t → s ≡ t

@@ -5,14 +5,14 @@ use Prim.Native.Nat.{ℕ, suc, _+_, _*_, _<_, _≤_}
 use native.Mathlib.Omega.{arith}
 use lib.ListN.{length, getD, set, replicate}
 use Rattle.runs.specs.Over.{over}
-use Rattle.runs.specs.Cells.{cellsFrom, Own}
+use Rattle.runs.specs.Cells.{cellsFrom, Puts, Own}
 use Rattle.runs.proofs.Over.{stores-at}
-use Rattle.runs.proofs.Cells.{Local, local-first, length-cells, cell-at, cells-put}
-use Rattle.runs.proofs.Own.{own-none, own-put}
+use Rattle.runs.proofs.Cells.{Local, local-first, length-cells, cell-at}
+use Rattle.runs.proofs.Own.{own-none, puts, own-put}
 use Rattle.pack.specs.Fixed.{itemCap}
 use Rattle.scrub_names.specs.declared.Mark.{Mark}
 use Rattle.scrub_names.specs.declared.Mark.the-variants as M
-use Rattle.scrub_names.specs.Marks.{markNumbers, markAt, marksIn, Puts}
+use Rattle.scrub_names.specs.Marks.{markNumbers, markAt, marksIn}
 
 pub length-marks : (s : List ℕ) → length (marksIn s) ≡ 64
 length-marks s = length-cells markAt 2 itemCap s
@@ -46,19 +46,17 @@ back (M.Number t) = refl
 back (M.Label k) = refl
 
 -- a store of a mark's numbers puts it into its cell, and no other changes
-pub marks-put : (s : List ℕ) → length s ≡ 128 → (n : ℕ) → n < 64 → {r : List ℕ} {m : Mark} → (ys : List ℕ) → ys ≡ markNumbers m → r ≡ over s (2 * n) ys → Puts s n m r
-marks-put s long n h {r} {m} ys e w =
-    let u = w ∙ ap (over s (2 * n)) e in
-    record
-    { numbers = u; marks = ap marksIn u ∙ cells-put markAt 2 near itemCap s (omega (arith, long)) n h (markNumbers m) (wide m) M.Gone ∙ ap (set (marksIn s) n) (back m) }
+pub marks-put : (s : List ℕ) → length s ≡ 128 → (n : ℕ) → n < 64 → {r : List ℕ} {m : Mark} → (ys : List ℕ) → ys ≡ markNumbers m → r ≡ over s (2 * n) ys
+    → Puts markAt markNumbers 2 itemCap s n m r
+marks-put s long n h {r} {m} ys e w = puts markAt markNumbers 2 itemCap near s (omega (arith, long)) n h m (wide m) (back m) (w ∙ ap (over s (2 * n)) e)
 
 -- an array of nothing is the numbers of its marks, and stays so when a mark is put
 pub own-nothing : Own markAt markNumbers 2 itemCap (replicate 128 0)
 unfolding markNumbers
 own-nothing = own-none markAt markNumbers 2 itemCap M.Gone refl marks-none
 
-pub own-mark : {s r : List ℕ} (n : ℕ) (m : Mark) → n < 64 → Puts s n m r → Own markAt markNumbers 2 itemCap s → Own markAt markNumbers 2 itemCap r
-own-mark n m h p = own-put markAt markNumbers 2 itemCap wide n m h (p .numbers) (p .marks)
+pub own-mark : {s r : List ℕ} {n : ℕ} {m : Mark} → n < 64 → Puts markAt markNumbers 2 itemCap s n m r → Own markAt markNumbers 2 itemCap s → Own markAt markNumbers 2 itemCap r
+own-mark = own-put markAt markNumbers 2 itemCap wide
 
 -- two stores, one after the other
 pub stored-two : (s : List ℕ) (at a b : ℕ) → at + 2 ≤ length s → set (set s at a) (at + 1) b ≡ over s at (a ∷ b ∷ [])

@@ -10,14 +10,14 @@ use lib.Seq.{getD-set-same, getD-set-other, length-take-le, take-all}
 use lib.Dec.{eqb}
 use borrow.Author.Tests.{ne-eqb, eqb-true, eqb-false}
 use Rattle.runs.specs.Same.{among}
-use Rattle.runs.specs.Cells.{numbersOf}
+use Rattle.runs.specs.Cells.{numbersOf, Puts}
 use Rattle.runs.proofs.Cases.{split}
 use Rattle.pack.specs.Fixed.{itemCap}
 use Rattle.pack.specs.Slots.{padded}
 use Rattle.pack.specs.declared.Slot.{Slot}
 use Rattle.scrub_names.specs.declared.Mark.{Mark}
 use Rattle.scrub_names.specs.declared.Mark.the-variants as M
-use Rattle.scrub_names.specs.Marks.{keptNumbers, keptLabels, markNumbers, marksIn, Puts, Noted}
+use Rattle.scrub_names.specs.Marks.{keptNumbers, keptLabels, markNumbers, markAt, marksIn, Noted}
 use Rattle.runs.proofs.Bools.{or-false, or-true}
 use Rattle.pack.proofs.Padded.{set-padded}
 use Rattle.scrub_names.proofs.Padded.{map-next}
@@ -50,13 +50,13 @@ notes-begin = record {
 }
 
 module _ {ms : List Mark} {marks order : List ℕ} {labels : ℕ} {taken seen : List Bool} (n : Notes ms marks order labels taken seen)
-    (at : ℕ) (here : at ≡ length ms) (room : at < 64) (r : Mark) {after : List ℕ} (put : Puts marks at r after) where
+    (at : ℕ) (here : at ≡ length ms) (room : at < 64) (r : Mark) {after : List ℕ} (put : Puts markAt markNumbers 2 itemCap marks at r after) where
   marks-more : marksIn after ≡ padded itemCap M.Gone (ms ++ (r ∷ []))
-  marks-more = put .marks ∙ ap (λ (x : List Mark). set x at r) (n .noted .marks) ∙ set-padded itemCap M.Gone ms at (sym here) r room
+  marks-more = put .held ∙ ap (λ (x : List Mark). set x at r) (n .noted .marks) ∙ set-padded itemCap M.Gone ms at (sym here) r room
 
   numbers-more : after ≡ numbersOf markNumbers (padded itemCap M.Gone (ms ++ (r ∷ [])))
   numbers-more =
-      own-mark at r room put (n .noted .numbers ∙ ap (numbersOf markNumbers) (sym (n .noted .marks))) ∙ ap (numbersOf markNumbers) marks-more
+      own-mark room put (n .noted .numbers ∙ ap (numbersOf markNumbers) (sym (n .noted .marks))) ∙ ap (numbersOf markNumbers) marks-more
 
   -- a mark that adds no label
   same-labels : (tk : List Bool) → keptLabels [] (ms ++ (r ∷ [])) ≡ keptLabels [] ms → length tk ≡ 64

@@ -2,11 +2,10 @@
 use mathlib.Core.Path.{_≡_}
 use mathlib.Core.List.{List, [], _∷_, map}
 use mathlib.Core.Bool.{Bool, false, cond}
-use Prim.Native.Nat.{ℕ, _+_, _*_, _<_, _≤_}
+use Prim.Native.Nat.{ℕ, _+_, _<_, _≤_}
 use lib.Dec.{eqb}
-use lib.ListN.{length, take, drop, getD, set}
+use lib.ListN.{length, take, drop, getD}
 use Rattle.runs.specs.Same.{among}
-use Rattle.runs.specs.Over.{over}
 use Rattle.runs.specs.Cells.{cells, numbersOf}
 use Rattle.pack.specs.declared.Name.{Name}
 use Rattle.pack.specs.declared.Name.the-variants as N
@@ -66,11 +65,6 @@ markAt s at = cond (eqb (getD s at 0) 1) (M.Number (getD s (at + 1) 0)) (cond (e
 -- the marks of an array of numbers
 abbrev pub marksIn : List ℕ → List Mark
 marksIn s = cells markAt 2 itemCap s
-
--- what putting a mark into the cell i promises: its numbers stand there and nothing else changes, and so of the marks
-pub record Puts (before : List ℕ) (i : ℕ) (mark : Mark) (after : List ℕ) : Type 0 where
-  pub numbers : after ≡ over before (2 * i) (markNumbers mark)
-  pub marks : marksIn after ≡ set (marksIn before) i mark
 
 -- the marks of the slots and the array of their numbers, the kept labels in order of first appearance and how many they are, and which of the
 -- numbers 64 to 127 are kept

@@ -5,13 +5,14 @@ ghost use mathlib.Core.List.{[], _∷_};
 ghost use Prim.Native.Nat.{ℕ, _+_, _*_, _<_, _≤_};
 ghost use lib.ListN.{length, take, replicate};
 ghost use Rattle.runs.specs.Over.{over};
+ghost use Rattle.runs.specs.Cells.{Puts};
 ghost use Rattle.runs.specs.Those.{Each};
 ghost use Rattle.pack.specs.Fixed.{itemCap, mappingCap};
 ghost use Rattle.pack.specs.Slots.{padded};
 ghost use Rattle.pack.specs.Fits.{NameFits, ItemFits, SlotsFit};
 ghost use Rattle.pack_slots.specs.Slots.{slotsIn};
 ghost use Rattle.scrub_sheet.specs.Asked.{asks, EntriesThere, Short};
-ghost use Rattle.scrub_names.specs.Marks.{flagsOf, markName, markItem, marksOf, markAt, marksIn, Puts, Noted, HasLabel};
+ghost use Rattle.scrub_names.specs.Marks.{flagsOf, markName, markItem, marksOf, markNumbers, markAt, marksIn, Noted, HasLabel};
 ghost use Rattle.scrub_names.specs.Given.{clearAt, given, byIndex};
 use pack::Item;
 use pack::Name;
@@ -90,7 +91,7 @@ fn put_two(out: &mut [u32], at: usize, first: u32, second: u32)
 // Puts a mark into the cell `i`.
 fn put_mark(marks: &mut [u32; 128], i: usize, mark: Mark)
     requires { ⌜ i < itemCap ⌝ }
-    ensures { λ _. ⌜ Puts (now (marks .entry)) i mark (now (marks .exit)) ⌝ }
+    ensures { λ _. ⌜ Puts markAt markNumbers 2 itemCap (now (marks .entry)) i mark (now (marks .exit)) ⌝ }
 {
     match mark {
         Mark::Gone => put_two(marks, 2 * i, 0, 0),

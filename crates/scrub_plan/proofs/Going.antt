@@ -5,12 +5,12 @@ use Prim.Native.Nat.{ℕ, suc, _+_, _-_, _*_, _<_, _≤_}
 use native.Mathlib.Omega.{arith}
 use lib.ListN.{length, take, drop, getD, set, replicate, length-replicate, replicate-append-replicate, drop-of-length-le}
 use lib.Seq.{drop-cons, set-at, take-at}
-use Rattle.runs.specs.Cells.{numbersOf, Own}
+use Rattle.runs.specs.Cells.{numbersOf, Puts, Own}
 use Rattle.pack.specs.declared.Slot.{Slot}
 use Rattle.scrub_names.specs.declared.Mark.{Mark}
 use Rattle.scrub_write.specs.declared.Op.the-variants.{Skip}
 use Rattle.scrub_write.specs.declared.Op.{Op}
-use Rattle.scrub_write.specs.Ops.{opNumbers, opAt, opsIn, Puts}
+use Rattle.scrub_write.specs.Ops.{opNumbers, opAt, opsIn}
 use Rattle.scrub_write.proofs.Cells.{ops-none, own-nothing, own-write}
 use Rattle.scrub_plan.specs.declared.SlotPlan.{SlotPlan}
 use Rattle.scrub_plan.specs.Planned.{tagOf, slotPlan, Planned, joined, planned, Plans}
@@ -79,7 +79,7 @@ module _ {index : List ℕ} {xs : List Slot} {ms : List Mark} {ops : List ℕ} {
       }
 
   module _ (d : Slot) (e : Mark) (h : 0 < i) where
-    pub going-on : (r : SlotPlan) (now : List ℕ) → Puts ops (i - 1) (r .op) now → (r ≡ slotPlan ((getD xs (i - 1) d) .item) (tagOf index (getD ms (i - 1) e)) inner) × (r .size ≤ 40000) × (r .inner ≤ inner + r .size)
+    pub going-on : (r : SlotPlan) (now : List ℕ) → Puts opAt opNumbers 4 64 ops (i - 1) (r .op) now → (r ≡ slotPlan ((getD xs (i - 1) d) .item) (tagOf index (getD ms (i - 1) e)) inner) × (r .size ≤ 40000) × (r .inner ≤ inner + r .size)
         → Going index xs ms now (r .inner) (size + r .size) (i - 1)
     unfolding planned
     going-on r now put q =
@@ -99,9 +99,9 @@ module _ {index : List ℕ} {xs : List Slot} {ms : List Mark} {ops : List ℕ} {
           most = omega arith;
           few = f;
           long = l;
-          own = own-write j (r .op) (omega arith) put (g .own);
+          own = own-write (omega arith) put (g .own);
           full =
-              put .writes ∙ ap (λ (y : List Op). set y j (r .op)) (g .full)
+              put .held ∙ ap (λ (y : List Op). set y j (r .op)) (g .full)
               ∙ set-last Skip (r .op) tail i h
               ∙ ap (λ (x : Planned). replicate j Skip ++ (x .ops ++ replicate (64 - length xs) Skip)) (sym p);
           ins = sym (ap (λ (x : Planned). x .inner) p);

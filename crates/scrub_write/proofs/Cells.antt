@@ -1,17 +1,17 @@
 -- The writes as numbers: what a store changes, what is read back, and an array that holds nothing yet.
-use mathlib.Core.Path.{_≡_, refl, ap, ap₂, _∙_}
+use mathlib.Core.Path.{_≡_, refl, ap₂}
 use mathlib.Core.List.{List, [], _∷_}
 use Prim.Native.Nat.{ℕ, suc, _+_, _*_, _<_, _≤_, _%_}
 use native.Mathlib.Omega.{arith}
 use lib.ListN.{length, getD, set, replicate}
 use Rattle.runs.specs.Over.{over}
-use Rattle.runs.specs.Cells.{cellsFrom, Own}
+use Rattle.runs.specs.Cells.{cellsFrom, Puts, Own}
 use Rattle.runs.proofs.Over.{stores-at}
-use Rattle.runs.proofs.Cells.{Local, local-first, length-cells, cell-at, cells-put}
-use Rattle.runs.proofs.Own.{own-none, own-put}
+use Rattle.runs.proofs.Cells.{Local, local-first, length-cells, cell-at}
+use Rattle.runs.proofs.Own.{own-none, puts, own-put}
 use Rattle.scrub_write.specs.declared.Op.{Op}
 use Rattle.scrub_write.specs.declared.Op.the-variants.{Skip, Put, Open}
-use Rattle.scrub_write.specs.Ops.{opNumbers, opAt, opsIn, Puts}
+use Rattle.scrub_write.specs.Ops.{opNumbers, opAt, opsIn}
 
 -- four stores, one after the other
 pub stored-four : (xs : List ℕ) (at a b c d : ℕ) → at + 4 ≤ length xs
@@ -37,22 +37,21 @@ wide (Put t v l) = refl
 wide (Open n o d) = refl
 
 -- a store of a write's numbers puts it into its cell, and no other changes
-put-as : (s : List ℕ) → length s ≡ 256 → (i : ℕ) → i < 64 → {r : List ℕ} (x : Op) → opAt (opNumbers x) 0 ≡ x → r ≡ over s (4 * i) (opNumbers x) → Puts s i x r
-put-as s long i h x e w = record
-    { numbers = w; writes = ap opsIn w ∙ cells-put opAt 4 near 64 s (omega (arith, long)) i h (opNumbers x) (wide x) Skip ∙ ap (set (opsIn s) i) e }
+put-as : (s : List ℕ) → length s ≡ 256 → (i : ℕ) → i < 64 → {r : List ℕ} (x : Op) → opAt (opNumbers x) 0 ≡ x → r ≡ over s (4 * i) (opNumbers x) → Puts opAt opNumbers 4 64 s i x r
+put-as s long i h x e w = puts opAt opNumbers 4 64 near s (omega (arith, long)) i h x (wide x) e w
 
 -- by the write
 module _ (s : List ℕ) (long : length s ≡ 256) (i : ℕ) (h : i < 64) {r : List ℕ} {x : Op} where
-  pub put-skip : x ≡ Skip → r ≡ over s (4 * i) (0 ∷ 0 ∷ 0 ∷ 0 ∷ []) → Puts s i x r
+  pub put-skip : x ≡ Skip → r ≡ over s (4 * i) (0 ∷ 0 ∷ 0 ∷ 0 ∷ []) → Puts opAt opNumbers 4 64 s i x r
   unfolding opNumbers opAt
   put-skip e w = rw e (put-as s long i h Skip refl w)
 
-  pub put-put : (t v l : ℕ) → x ≡ Put t v l → r ≡ over s (4 * i) (1 ∷ t ∷ v ∷ l ∷ []) → Puts s i x r
+  pub put-put : (t v l : ℕ) → x ≡ Put t v l → r ≡ over s (4 * i) (1 ∷ t ∷ v ∷ l ∷ []) → Puts opAt opNumbers 4 64 s i x r
   unfolding opNumbers opAt
   put-put t v l e w = rw e (put-as s long i h (Put t v l) refl w)
 
   -- a Sync's two numbers have 16 bits
-  pub put-open : (n o d : ℕ) → x ≡ Open n o d → o < 65536 → d < 65536 → r ≡ over s (4 * i) (2 ∷ n ∷ o ∷ d ∷ []) → Puts s i x r
+  pub put-open : (n o d : ℕ) → x ≡ Open n o d → o < 65536 → d < 65536 → r ≡ over s (4 * i) (2 ∷ n ∷ o ∷ d ∷ []) → Puts opAt opNumbers 4 64 s i x r
   unfolding opNumbers opAt
   put-open n o d e a b w =
       let p : o % 65536 ≡ o = omega arith in
@@ -69,5 +68,5 @@ pub own-nothing : Own opAt opNumbers 4 64 (replicate 256 0)
 unfolding opNumbers
 own-nothing = own-none opAt opNumbers 4 64 Skip refl ops-none
 
-pub own-write : {s r : List ℕ} (i : ℕ) (x : Op) → i < 64 → Puts s i x r → Own opAt opNumbers 4 64 s → Own opAt opNumbers 4 64 r
-own-write i x h p = own-put opAt opNumbers 4 64 wide i x h (p .numbers) (p .writes)
+pub own-write : {s r : List ℕ} {i : ℕ} {x : Op} → i < 64 → Puts opAt opNumbers 4 64 s i x r → Own opAt opNumbers 4 64 s → Own opAt opNumbers 4 64 r
+own-write = own-put opAt opNumbers 4 64 wide

@@ -1,11 +1,9 @@
 -- Inner. The writes of a scrub, one after the other, and their bytes.
-use mathlib.Core.Path.{_≡_}
 use mathlib.Core.List.{List, [], _∷_, _++_}
 use mathlib.Core.Bool.{cond}
-use Prim.Native.Nat.{ℕ, _+_, _*_, _<_, _≤_, _^_, _%_}
+use Prim.Native.Nat.{ℕ, _+_, _<_, _≤_, _^_, _%_}
 use lib.Dec.{eqb}
-use lib.ListN.{length, take, drop, getD, set}
-use Rattle.runs.specs.Over.{over}
+use lib.ListN.{length, take, drop, getD}
 use Rattle.runs.specs.Cells.{cells}
 use Rattle.runs.specs.Digits.{digits}
 use Rattle.numbers.specs.Tags.{tagBytes}
@@ -45,8 +43,3 @@ opAt s at =
 -- the writes of an array
 abbrev pub opsIn : List ℕ → List Op
 opsIn s = cells opAt 4 64 s
-
--- what putting a write into the cell i promises: its numbers stand there and nothing else changes, and so of the writes
-pub record Puts (before : List ℕ) (i : ℕ) (op : Op) (after : List ℕ) : Type 0 where
-  pub numbers : after ≡ over before (4 * i) (opNumbers op)
-  pub writes : opsIn after ≡ set (opsIn before) i op

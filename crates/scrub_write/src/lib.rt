@@ -4,12 +4,13 @@ ghost use mathlib.Core.List.{[], _∷_, _++_};
 ghost use Prim.Native.Nat.{_+_, _≤_, _<_, _^_, _*_};
 ghost use lib.ListN.{length, take, drop};
 ghost use Rattle.runs.specs.Over.{Wrote, over};
+ghost use Rattle.runs.specs.Cells.{Puts};
 ghost use Rattle.runs.specs.Those.{Each};
 ghost use Rattle.numbers.specs.Tags.{tagBytes};
 ghost use Rattle.numbers.specs.Lengths.{lengthBytes};
 ghost use Rattle.pack.specs.Fixed.{key};
 ghost use Rattle.pack_layout.specs.Layout.{entriesBytes};
-ghost use Rattle.scrub_write.specs.Ops.{opBytes, opsBytes, OpFits, opAt, opsIn, Puts};
+ghost use Rattle.scrub_write.specs.Ops.{opBytes, opsBytes, OpFits, opNumbers, opAt, opsIn};
 ghost use Rattle.scrub_write.specs.Laid.{entriesAt, configAt, configSize, framed, sealed, Packed, EntriesFit, laidOut, Packs};
 
 const KEY: [u8; 16] = [
@@ -67,7 +68,7 @@ fn put_four(ops: &mut [u32], at: usize, kind: u32, a: u32, b: u32, c: u32)
 // Puts a write into its place among all, where each takes four numbers.
 pub fn put_op(ops: &mut [u32; 256], i: usize, op: Op)
     requires { ⌜ i < 64 ⌝ }
-    ensures { λ _. ⌜ Puts (now (ops .entry)) i op (now (ops .exit)) ⌝ }
+    ensures { λ _. ⌜ Puts opAt opNumbers 4 64 (now (ops .entry)) i op (now (ops .exit)) ⌝ }
 {
     match op {
         Op::Skip => put_four(ops, 4 * i, 0, 0, 0, 0),
