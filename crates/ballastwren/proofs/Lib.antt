@@ -1,3 +1,4 @@
+pub mod Checks
 pub mod Edge
 pub mod Most
 pub mod One

@@ -57,10 +57,19 @@ module _ (sheet s : List ℕ) {before out run : List ℕ} {a : Told} (x : BwScru
         back = λ sh r named accepted done. promises.read-back sheet s sh r named accepted bytes x done;
       }
 
-pub check-then-read : (pack : List ℕ) {run rows : List ℕ} {a b : Told} → a ≡ toldOf (checked pack) → BwRead pack run b rows → CheckAndRead pack run a b rows
-check-then-read pack x y =
+pub check-then-read : (pack : List ℕ) {run rows : List ℕ} {a b : Told} → Bytes pack → a ≡ toldOf (checked pack) → BwRead pack run b rows
+    → CheckAndRead pack run a b rows
+check-then-read pack bytes x y =
     let told = promises.check-then-read pack x y in
-    record { first = x; second = y; unchanged = promises.read-unchanged pack y; refused = told .0; room = told .1; noRoom = told .2 }
+    record {
+      first = x;
+      second = y;
+      unchanged = promises.read-unchanged pack y;
+      exactly = promises.accepted-exactly pack bytes x;
+      refused = told .0;
+      room = told .1;
+      noRoom = told .2;
+    }
 
 -- PMD VALUES
 

@@ -8,6 +8,9 @@ use Rattle.runs.specs.Over.{over}
 use Rattle.refusals.specs.Outcomes.{fine}
 use Rattle.pack.specs.Reading.{Read, reading, checked}
 use Rattle.pack.specs.Meaning.{meant}
+use Rattle.pack_layout.specs.Layout.{Description, layout}
+use Rattle.pack_layout.specs.Well.{WellFormed}
+use Rattle.pack_layout.specs.Agrees.{Sound}
 use Rattle.scrub_kept.specs.Sheet.{Sheet, sheetOf}
 use Rattle.scrub_kept.specs.Kept.{keptItems, kept}
 use Rattle.scrub_kept.specs.Scrubbed.{ReadsAs}
@@ -22,7 +25,12 @@ use Rattle.ballastwren.specs.Told.{toldOf, toldGainOf, BwRead, BwScrub, BwPmdRe
 abbrev pub Unchanged : Told → List ℕ → List ℕ → Type 0
 Unchanged a before after = (a .number ≡ 0 → ⊥) → after ≡ before
 
--- Demand 2: writing the fields read from an accepted value gives that value back, whenever both buffers have room
+-- Demand 2: a pack is accepted exactly where it is the layout of a well-formed description, and then its reading means what the description says;
+abbrev pub ReadExactly : List ℕ → Told → Type 0
+ReadExactly pack a =
+    (a .number ≡ 0 → (r : Read) × (reading pack ≡ fine r) × Sound pack r) × ((d : Description) → WellFormed d → layout d ≡ pack → a .number ≡ 0)
+
+-- writing the fields read from an accepted value gives that value back, whenever both buffers have room
 abbrev pub ValueBack : List ℕ → List ℕ → Told → Told → List ℕ → Type 0
 ValueBack value before a b out = a .number ≡ 0 → length value ≤ length before → (b ≡ record { number = 0; value = length value }) × (out ≡ over before 0 value)
 
@@ -86,6 +94,7 @@ pub record CheckAndRead (pack run : List ℕ) (a b : Told) (rows : List ℕ) : T
   pub first : a ≡ toldOf (checked pack)
   pub second : BwRead pack run b rows
   pub unchanged : Unchanged b run rows
+  pub exactly : ReadExactly pack a
   pub refused : (a .number ≡ 0 → ⊥) → b ≡ a
   pub room : a .number ≡ 0 → 8 * (1 + a .value) ≤ length run → b ≡ record { number = 0; value = 8 * (1 + a .value) }
   pub noRoom : a .number ≡ 0 → length run < 8 * (1 + a .value) → b ≡ record { number = 15; value = 0 }

@@ -43,7 +43,7 @@ use Rattle.pack.proofs.Fuel as fuel
 use Rattle.pack_read.proofs.One as reader
 use Rattle.pack_text.specs.Text.{listing}
 use Rattle.pack_text.proofs.One as listings
-use Rattle.pack_layout.specs.Layout.{Entry, noConfig, entriesLaid, Description}
+use Rattle.pack_layout.specs.Layout.{Entry, noConfig, entriesLaid, Description, layout}
 use Rattle.pack_layout.specs.Well.{WellFormed}
 use Rattle.pack_layout.specs.Agrees.{Sound, Complete}
 use Rattle.pack_layout.proofs.Complete as complete
@@ -78,6 +78,7 @@ use Rattle.ballastwren.specs.declared.Told.{Told}
 use Rattle.ballastwren.specs.declared.ToldGain.{ToldGain}
 use Rattle.promises.specs.Starts.{AllStand}
 use Rattle.promises.proofs.Starts as starts
+use Rattle.ballastwren.proofs.Checks as checks
 use Rattle.ballastwren.proofs.Edge as edge
 use Rattle.ballastwren.proofs.Most as most
 use Rattle.ballastwren.proofs.One as exports
@@ -358,7 +359,13 @@ pub check-then-read : (pack : List ℕ) {before after : List ℕ} {a b : Told} �
     → ((a .number ≡ 0 → ⊥) → b ≡ a)
     × (a .number ≡ 0 → 8 * (1 + a .value) ≤ length before → b ≡ record { number = 0; value = 8 * (1 + a .value) })
     × (a .number ≡ 0 → length before < 8 * (1 + a .value) → b ≡ record { number = 15; value = 0 })
-check-then-read = most.check-then-read
+check-then-read = checks.check-then-read
+
+-- `bw_check` accepts exactly the packs that can be made: one that it accepts is the layout of a well-formed description, and its reading means what the
+-- description says; and the layout of every well-formed description is accepted.
+pub accepted-exactly : (pack : List ℕ) → Bytes pack → {a : Told} → a ≡ toldOf (checked pack)
+    → (a .number ≡ 0 → (r : Read) × (reading pack ≡ fine r) × Sound pack r) × ((d : Description) → WellFormed d → layout d ≡ pack → a .number ≡ 0)
+accepted-exactly = checks.accepted-exactly
 
 -- `bw_gain` tells a gain muted at 0, else gain minus 51 in half decibels; a gain above 63 is FIELD, number 17.
 pub gain-levels : (gain : ℕ) {t : ToldGain} → t ≡ toldGainOf (levelOf gain)
