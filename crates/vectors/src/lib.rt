@@ -1,10 +1,14 @@
 // How the input of a case is laid out: in parts, each with how often it stands there and its length, in two bytes each, and its bytes.
-ghost use Prim.Native.Nat.{_≤_};
-ghost use lib.ListN.{length};
+ghost use mathlib.Core.List.{map};
+ghost use Prim.Native.Nat.{_-_, _≤_};
+ghost use lib.ListN.{length, replicate};
+ghost use Rattle.runs.specs.Digits.{digits};
+ghost use Rattle.runs.specs.Over.{Wrote};
+ghost use Rattle.vectors.specs.Blocks.{fitting, fours, blocksIn};
 
 // Puts numbers into `out` as four bytes each, as many as it has room for, and answers how many bytes they are.
 pub fn laid(numbers: &[u32], out: &mut [u8]) -> usize
-    ensures { λ r. ⌜ r ≤ length (now (out .exit)) ⌝ }
+    ensures { λ r. ⌜ (r ≤ length (now (out .exit))) × Wrote (now (out .entry)) 0 (fitting (length (now (out .entry))) (map (digits 256 4) (now (numbers .entry)))) r (now (out .exit)) ⌝ }
 {
     let mut i: usize = 0;
     let mut at: usize = 0;
@@ -20,7 +24,7 @@ pub fn laid(numbers: &[u32], out: &mut [u8]) -> usize
 
 // Takes the numbers of four bytes each from `s`, as many as `out` has room for, and answers how many they are.
 pub fn taken(s: &[u8], out: &mut [u32]) -> usize
-    ensures { λ r. ⌜ r ≤ length (now (out .exit)) ⌝ }
+    ensures { λ r. ⌜ (r ≤ length (now (out .exit))) × Wrote (now (out .entry)) 0 (fours (length (now (out .entry))) (now (s .entry)) 0) r (now (out .exit)) ⌝ }
 {
     let mut n: usize = 0;
     let mut at: usize = 0;
@@ -38,7 +42,7 @@ pub fn taken(s: &[u8], out: &mut [u32]) -> usize
 // Puts a block into `out` so many times from `from` on, and answers the place after the last that has room.
 fn repeated(block: &[u8], times: usize, out: &mut [u8], from: usize) -> usize
     requires { ⌜ from ≤ length (now out) ⌝ }
-    ensures { λ r. ⌜ r ≤ length (now (out .exit)) ⌝ }
+    ensures { λ r. ⌜ (r ≤ length (now (out .exit))) × Wrote (now (out .entry)) from (fitting (length (now (out .entry)) - from) (replicate times (now (block .entry)))) r (now (out .exit)) ⌝ }
 {
     let mut n = from;
     let mut t: usize = 0;
@@ -54,7 +58,7 @@ fn repeated(block: &[u8], times: usize, out: &mut [u8], from: usize) -> usize
 
 // Puts the input that these parts make up into `out`, and answers how many bytes it is.
 pub fn joined(parts: &[u8], out: &mut [u8]) -> usize
-    ensures { λ r. ⌜ r ≤ length (now (out .exit)) ⌝ }
+    ensures { λ r. ⌜ (r ≤ length (now (out .exit))) × Wrote (now (out .entry)) 0 (fitting (length (now (out .entry))) (blocksIn (now (parts .entry)))) r (now (out .exit)) ⌝ }
 {
     let mut n: usize = 0;
     let mut at: usize = 0;

@@ -1,23 +1,21 @@
--- `vectors::repeated` is safe and ends: the place stays within the run, whose length does not change.
-use Prim.Native.Nat.{_-_, _≤_}
-use mathlib.Core.Path.{_≡_, _∙_}
+-- `vectors::repeated` meets its contract. The loop keeps what is still to be put.
+use Prim.Native.Nat.{_-_}
 use native.Mathlib.Omega.{arith}
 use borrow.Author.Needs.{needs}
-use lib.ListN.{length}
-use Rattle.runs.proofs.Over.{wrote-inside}
+use Rattle.vectors.proofs.Loops.{Repeating, repeating-begins, repeating-on, repeating-full, repeating-ends}
 use Rattle.vectors.proofs.repeated.Statement.{statement}
 use Rattle.vectors.proofs.repeated.Tie as tie
 
 abbrev Inv-loop : tie.InvT-loop
-Inv-loop block times out₀ from n₀ t₀ out n t = (t ≤ times) × ((n ≤ length out) × (length out ≡ length out₀))
+Inv-loop block times out₀ from n₀ t₀ out n t = Repeating block times out₀ from out n t
 
 abbrev μ-loop : tie.MeasureT-loop
 μ-loop block times out₀ from n₀ t₀ out n t = times - t
 
 again : tie.Need-loop-again Inv-loop μ-loop
 again c =
-    let f = wrote-inside (omega arith) (c .before .before .copy .ensures) in
-    (omega arith, (f .0, f .1 ∙ c .before .before .before .before .before .before .loop .inv .1 .1))
+    let i = c .before .before .before .before in
+    repeating-on (i .before .before .loop .inv) (i .before .loop-test .taken) (i .if1 .left) (c .before .before .copy .ensures)
 
 pub repeated-spec : {M : Type 1} → statement M
 repeated-spec =
@@ -25,13 +23,13 @@ repeated-spec =
     (tie.spec
     Inv-loop
     μ-loop
-    (λ c. search needs)
-    (λ c. search needs)
-    (λ c. search needs)
-    (λ c. search needs)
-    (λ c κs. omega arith)
+    (λ c. repeating-begins _ _ _ _ (c .before .before .pre))
+    (λ c. c .before .loop .inv .filling .inside)
+    (λ c. c .before .before .loop .inv .filling .writing .same)
+    (λ c. repeating-full (c .before .before .loop .inv) (c .if1 .taken))
+    (λ c κs. let i = c .before .before .before .loop .inv .filling .inside in omega arith)
     (λ c. search needs)
     (λ c. search needs)
     again
-    (λ c. search needs)
-    (λ c. search needs))
+    (λ c. c .before .loop .inv .filling .writing .same)
+    (λ c. repeating-ends (c .before .loop .inv) (c .loop-test .left)))
