@@ -16,7 +16,6 @@ use Rattle.refusals.specs.Refusals.{numberOf}
 use Rattle.refusals.specs.declared.Refusal.{Refusal}
 use Rattle.refusals.specs.declared.Refusal.the-variants as R
 use Rattle.refusals.specs.declared.Answer.{Answer}
-use Rattle.refusals.specs.declared.Answer.the-variants as A
 use Rattle.refusals.proofs.Numbers as refusals
 use Rattle.numbers.specs.declared.TagRead.the-variants as T
 use Rattle.numbers.specs.declared.LengthRead.the-variants as L
