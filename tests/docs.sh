@@ -140,7 +140,7 @@ equations() {
 formed() {
     case $1 in
     "An equation with a definition") [[ $2 =~ ^\(?(r|n|now r|now \([a-z]+ \.exit\))\ ≡\  ]] ;;
-    "Bytes or numbers written from a place on") [[ $2 == "Wrote "* ]] ;;
+    "Bytes or numbers written from a place on") [[ $2 == "Wrote "* || $2 == *") × Wrote "* ]] ;;
     "A call that is lent a run") [[ $2 =~ ^(Delivered|Scrubs|Bw[A-Za-z]+)\  ]] ;;
     "A record of equations") equations "${2%% *}" ;;
     *) [[ -n $2 ]] ;;
