@@ -16,7 +16,7 @@ abbrev μ-loop : tie.MeasureT-loop
 again : tie.Need-loop-again Inv-loop μ-loop
 again c =
     let i = c .before .before .before .before .before in
-    laying-on (i .before .before .loop .inv) (i .before .loop-test .taken) (i .if1 .left) (c .before .before .write-be32 .ensures)
+    laying-on (i .before .before .loop .inv) (i .before .loop-test .taken) (omega arith) (c .before .before .write-be32 .ensures)
 
 pub laid-spec : {M : Type 1} → statement M
 laid-spec =
