@@ -32,7 +32,7 @@ use Rattle.pack_layout.proofs.Entries.{entryOf, name-means}
 use Rattle.pack_layout.proofs.Mapped.{placed, placed-entries, tags-entries, labels-entries, mappings-laid}
 use Rattle.pack_layout.proofs.Items.{ItemsLaid, items-laid}
 
-key-long : length key ≡ 16
+pub key-long : length key ≡ 16
 unfolding key
 key-long = refl
 
