@@ -1,7 +1,8 @@
--- What breaks an element, in the words of the layout, both ways: what the reader says of an element that it does not take, and what it says where one is broken.
+-- What breaks an element, and what cuts off a mapping, in the words of the layout, both ways: what is wrong where the reader says so, and what the reader says
+-- where it is wrong.
 use mathlib.Core.Path.{_≡_, refl, sym, ap, subst, _∙_}
-use mathlib.Core.List.{List, [], _∷_, _++_, append-assoc}
-use mathlib.Core.Bool.{true, false}
+use mathlib.Core.List.{List, [], _++_, append-assoc}
+use mathlib.Core.Logic.{_⊎_, inl, inr}
 use Prim.Native.Nat.{ℕ, _+_, _-_, _<_, _≤_}
 use native.Mathlib.Omega.{arith}
 use lib.Dec.{leb}
@@ -26,7 +27,7 @@ use Rattle.pack_layout.specs.Layout.{element}
 use Rattle.pack_layout.specs.Well.{FormFits}
 use Rattle.pack_layout.specs.Refused.{TagFits, NoLength, Lacks, NoElement, runsOut, badTag, badLength}
 use Rattle.pack_layout.proofs.BrokenTags.{last, CutTag, tag-longer, tag-stands, bad-in, tag-bad, bad-tag, tag-cut}
-use Rattle.pack_layout.proofs.BrokenLengths.{ValueLacks, Unread, noLength, noValue, length-bad, bad-length, length-cut, value-cut, lacks-value}
+use Rattle.pack_layout.proofs.BrokenLengths.{zeros, length-zeros, ValueLacks, Unread, noLength, noValue, length-bad, bad-length, length-cut, value-cut, lacks-value}
 
 -- an empty value fits the short form
 none-fits : FormFits 0 0
@@ -134,3 +135,63 @@ broken-element p at R.Length b (badLength t z g e h) =
     let x = tag-next p at t n a in
     let y : drop n p ≡ z = stands-past p at (tagBytes t) z e in
     (omega arith, found-forbidden p at t n a (bad-length p n b (x .1) (subst NoLength (sym y) h)))
+
+-- z lacks some bytes to be a tag and its label
+pub record EntryLacks (z : List ℕ) : Type 0 where
+  pub t : ℕ
+  pub label : List ℕ
+  pub tagged : TagFits t
+  pub long : length label ≡ 16
+  pub lacks : Lacks z (tagBytes t ++ label)
+
+pub tag-cut-lacks : (c : List ℕ) (at : ℕ) → Bytes c → at < length c → tagAt c at ≡ T.Cut → EntryLacks (drop at c)
+tag-cut-lacks c at b i h =
+    let r = tag-cut c at b i h in
+    record {
+      t = r .t;
+      label = zeros 16;
+      tagged = r .fits;
+      long = length-zeros 16;
+      lacks = record {
+        more = last ++ zeros 16;
+        some = omega (arith, length-drop at c);
+        missing = omega (arith, length-append last (zeros 16));
+        is = sym (append-assoc (drop at c) last (zeros 16)) ∙ ap (λ (l : List ℕ). l ++ zeros 16) (r .is);
+      };
+    }
+
+pub label-cut-lacks : (c : List ℕ) (at t n : ℕ) → Bytes c → tagAt c at ≡ T.Tag t n → length c - n < 16 → EntryLacks (drop at c)
+label-cut-lacks c at t n b e h =
+    let more = zeros (16 - (length c - n)) in
+    let size = length-zeros (16 - (length c - n)) in
+    let x = tag-next c at t n e in
+    record {
+      t = t;
+      label = drop n c ++ more;
+      tagged = tag-range c at t n b e;
+      long = omega (arith, length-append (drop n c) more, length-drop n c);
+      lacks = record {
+        more = more;
+        some = omega (arith, length-drop at c);
+        missing = omega arith;
+        is = ap (λ (l : List ℕ). l ++ more) (tag-canonical c at t n b e .0) ∙ append-assoc (tagBytes t) (drop n c) more;
+      };
+    }
+
+-- a tag is there, and fewer bytes than a label after it
+pub record CutLabel (c : List ℕ) (at : ℕ) : Type 0 where
+  pub t : ℕ
+  pub n : ℕ
+  pub tag : tagAt c at ≡ T.Tag t n
+  pub short : length c - n < 16
+
+cut-at : (c : List ℕ) (at : ℕ) (w : EntryLacks (drop at c)) → TagLacks c at (w .t) (w .lacks .more) (w .label) → (tagAt c at ≡ T.Cut) ⊎ CutLabel c at
+cut-at c at w (tagCut a) = inl a
+cut-at c at w (afterTag n a k e) =
+    let size : length c - n + length (w .lacks .more) ≡ 16 =
+    sym (length-append (drop n c) (w .lacks .more) ∙ ap (λ (m : ℕ). m + length (w .lacks .more)) (length-drop n c)) ∙ ap length e ∙ w .long in
+    inr (record { t = w .t; n = n; tag = a; short = omega (arith, w .lacks .missing) })
+
+pub lacks-entry : (c : List ℕ) (at : ℕ) → Bytes c → EntryLacks (drop at c) → (tagAt c at ≡ T.Cut) ⊎ CutLabel c at
+lacks-entry c at b w =
+    cut-at c at w (lacks-tag c at (w .t) (w .lacks .more) (w .label) (w .tagged) (omega (arith, length-drop at c, w .lacks .some)) (w .lacks .is))
