@@ -58,6 +58,7 @@ value-runs-out p at t n b e w =
           ∙ ap (λ (l : List ℕ). tagBytes t ++ l) (w .is);
     })
 
+-- an element that is refused is broken, for that reason
 pub element-broken : (p : List ℕ) (at : ℕ) (why : Refusal) → Bytes p → at < length p → payloadAt p at ≡ Wrong why → NoElement (drop at p) why
 unfolding payloadAt tagFound valueFound
 element-broken p at why b i h = tagged (tagAt p at) refl h
@@ -78,7 +79,7 @@ element-broken p at why b i h = tagged (tagAt p at) refl h
     tagged T.Bad e g = is g (badTag (tag-bad p at e))
     tagged T.Cut e g = is g (tag-runs-out p at i (tag-cut p at b i e))
 
--- what is found where a tag is Bad, where it is Cut, and by what is wrong after a tag
+-- what is found where a tag is Bad or Cut, and where its length is Forbidden or bytes lack after it
 module _ (p : List ℕ) (at : ℕ) where
   found-bad : tagAt p at ≡ T.Bad → payloadAt p at ≡ Wrong R.Tag
   unfolding payloadAt tagFound
@@ -97,7 +98,7 @@ module _ (p : List ℕ) (at : ℕ) where
   found-unread t n a (noLength e) = simp (a, e)
   found-unread t n a (noValue l v e h) = simp (a, e, lt-leb _ _ h)
 
--- The tag of what lacks bytes: it is Cut itself, or it is there and the rest lacks them.
+-- the tag of what lacks bytes: it is Cut itself, or it is there and the rest lacks them
 pub data TagLacks (p : List ℕ) (at t : ℕ) (more rest : List ℕ) : Type 0 where
   tagCut : tagAt p at ≡ T.Cut → TagLacks p at t more rest
   afterTag : (n : ℕ) → tagAt p at ≡ T.Tag t n → n ≤ length p → drop n p ++ more ≡ rest → TagLacks p at t more rest
@@ -118,12 +119,14 @@ lacks-tag p at t more rest f i e = told (tagAt p at) refl
         afterTag n (a ∙ y) k
         (sym (drop-append-le n p more k) ∙ ap (λ (j : ℕ). drop j (p ++ more)) x ∙ stands-past (p ++ more) at (tagBytes t) rest g)
 
+-- an element that lacks bytes is refused as CUT
 run-out : (p : List ℕ) (at t form : ℕ) (v : List ℕ) → FormFits form (length v) → (w : Lacks (drop at p) (element t form v))
     → TagLacks p at t (w .more) (formBytes form (length v) ++ v) → payloadAt p at ≡ Wrong R.Cut
 run-out p at t form v f w (tagCut a) = found-cut p at a
 run-out p at t form v f w (afterTag n a k e) =
     found-unread p at t n a (lacks-value p n k (record { form = form; v = v; more = w .more; fits = f; missing = w .missing; is = e }))
 
+-- an element that is broken is refused, for that reason
 pub broken-element : (p : List ℕ) (at : ℕ) (why : Refusal) → Bytes p → NoElement (drop at p) why → (at < length p) × (payloadAt p at ≡ Wrong why)
 broken-element p at R.Cut b (runsOut t form v g f w) =
     let i : at < length p = omega (arith, length-drop at p, w .some) in
@@ -144,6 +147,7 @@ pub record EntryLacks (z : List ℕ) : Type 0 where
   pub long : length label ≡ 16
   pub lacks : Lacks z (tagBytes t ++ label)
 
+-- a mapping whose tag is Cut, and one whose label runs past the end
 pub tag-cut-lacks : (c : List ℕ) (at : ℕ) → Bytes c → at < length c → tagAt c at ≡ T.Cut → EntryLacks (drop at c)
 tag-cut-lacks c at b i h =
     let r = tag-cut c at b i h in
@@ -185,6 +189,7 @@ pub record CutLabel (c : List ℕ) (at : ℕ) : Type 0 where
   pub tag : tagAt c at ≡ T.Tag t n
   pub short : length c - n < 16
 
+-- a mapping that lacks bytes has one of the two
 cut-at : (c : List ℕ) (at : ℕ) (w : EntryLacks (drop at c)) → TagLacks c at (w .t) (w .lacks .more) (w .label) → (tagAt c at ≡ T.Cut) ⊎ CutLabel c at
 cut-at c at w (tagCut a) = inl a
 cut-at c at w (afterTag n a k e) =

@@ -6,7 +6,7 @@ use native.Mathlib.Omega.{arith}
 use lib.Dec.{ltb}
 use lib.ListN.{length, getD, take, drop, replicate, length-append, length-drop, length-replicate, drop-of-length-le, List·getD-append}
 use lib.Seq.{take-append-le, drop-append-le, getD-at}
-use borrow.Author.Tests.{lt-ltb, ltb-true, ltb-false}
+use borrow.Author.Tests.{ltb-true, ltb-false}
 use Rattle.runs.specs.Digits.{number, Bytes}
 use Rattle.runs.proofs.Cases.{split, absurd-eq}
 use Rattle.runs.proofs.Below.{below-none, below-cons, below-append}
@@ -17,8 +17,9 @@ use Rattle.numbers.specs.Lengths.{longest, longAt, lengthAt, formBytes}
 use Rattle.numbers.proofs.Lengths.{begins-short, begins-long, long-whole, form-back, form-sound, length-next}
 use Rattle.pack_layout.specs.Well.{FormFits}
 use Rattle.pack_layout.specs.Refused.{NoLength}
+use Rattle.pack_layout.proofs.BrokenTags.{longer}
 
--- where a long form's bytes are
+-- the bytes of a long form that are there, and those that are not
 long-there : (s : List ℕ) (at k : ℕ) → (longAt s at k ≡ L.Cut → ⊥) → at + k ≤ length s
 unfolding longAt
 long-there s at k h = split (ltb (length s) (at + k)) (λ e. absurd (h (simp e))) (λ e. ltb-false _ _ e)
@@ -46,8 +47,7 @@ module _ (s more : List ℕ) where
   unfolding lengthAt
   length-longer at h =
       split (ltb at (length s))
-      (λ e. let i : at < length (s ++ more) = omega (arith, length-append s more, ltb-true) in
-      let j = lt-ltb at (length (s ++ more)) i in
+      (λ e. let j = longer s more at (ltb-true _ _ e) in
       let g = List·getD-append s more 0 at (ltb-true _ _ e) in
       split (ltb (getD s at 0) 128)
       (λ f. simp (j, g, e, f))
@@ -68,6 +68,7 @@ length-in : (s : List ℕ) (at : ℕ) → (lengthAt s at ≡ L.Cut → ⊥) → 
 unfolding lengthAt
 length-in s at h = split (ltb at (length s)) (λ e. ltb-true _ _ e) (λ e. absurd (h (simp e)))
 
+-- a Forbidden length is none, whatever may follow it
 pub length-bad : (s : List ℕ) (at : ℕ) → lengthAt s at ≡ L.Forbidden → NoLength (drop at s)
 length-bad s at h form n more rest f e =
     let whole : lengthAt s at ≡ L.Cut → ⊥ = λ c. let z : L.Forbidden ≡ L.Cut = sym h ∙ c in absurd-eq (cc) in
@@ -85,6 +86,7 @@ pub record ValueLacks (z : List ℕ) : Type 0 where
   pub missing : 0 < length more
   pub is : z ++ more ≡ formBytes form (length v) ++ v
 
+-- bytes for those that lack
 abbrev pub zeros : ℕ → List ℕ
 zeros m = replicate m 0
 
@@ -95,13 +97,14 @@ zeros-below : (m : ℕ) → Bytes (zeros m)
 zeros-below zero = below-none 256 (omega arith)
 zeros-below (suc m) = below-cons 256 0 (zeros m) (omega arith) (zeros-below m)
 
--- so many zeros end a length that is Cut
+-- so many zeros make a length, up to their end, of one that is Cut
 record Filled (s : List ℕ) (at : ℕ) : Type 0 where
   m : ℕ
   l : ℕ
   some : 0 < m
   is : lengthAt (s ++ zeros m) at ≡ L.Length l (length s + m)
 
+-- by the count of its length bytes, and where not even its first byte is there
 long-filled : (s : List ℕ) (at k : ℕ) → at < length s → getD s at 0 ≡ 128 + k → 0 < k → k ≤ longest → length s < at + 1 + k → Filled s at
 long-filled s at k i x p q h =
     let m = at + 1 + k - length s in
@@ -142,6 +145,7 @@ length-filled s at i h =
     (long-missing s (at + 1) (getD s at 0 - 128) (simp (e, f, d, c) at h))))))
     (λ e. none-filled s at (omega (arith, ltb-false)))
 
+-- where a length is Cut, and where a value runs past the end, bytes lack
 pub length-cut : (s : List ℕ) (at : ℕ) → Bytes s → at ≤ length s → lengthAt s at ≡ L.Cut → ValueLacks (drop at s)
 length-cut s at b i h =
     let r = length-filled s at i h in
@@ -181,6 +185,7 @@ value-cut s at l n b h g =
       is = ap (λ (y : List ℕ). y ++ end) (f .stands) ∙ append-assoc fb (drop n s) end ∙ ap (λ (k : ℕ). formBytes (f .form) k ++ v) (sym long);
     }
 
+-- what begins no length, whatever may follow it, is a Forbidden one
 pub bad-length : (s : List ℕ) (at : ℕ) → Bytes s → at ≤ length s → NoLength (drop at s) → lengthAt s at ≡ L.Forbidden
 bad-length s at b i h = told (lengthAt s at) refl
   where

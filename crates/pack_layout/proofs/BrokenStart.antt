@@ -36,6 +36,7 @@ record Keyed (s : List ℕ) : Type 0 where
 after-key : (s : List ℕ) → Keyed s → s ≡ key ++ drop 16 s
 after-key s k = sym (take-append-drop 16 s) ∙ ap (λ (l : List ℕ). l ++ drop 16 s) (k .begins)
 
+-- it runs past the end, or it ends before
 runs-out : (s : List ℕ) → Keyed s → ValueLacks (drop 16 s) → Refused s R.Short 0
 runs-out s k w =
     packRunsOut (k .small) (k .long) (w .form) (w .v) (w .fits)
@@ -57,6 +58,7 @@ trails s l n b k e h =
     f .stands ∙ ap (λ (m : ℕ). formBytes (f .form) m ++ d) (sym long) ∙ ap (λ (y : List ℕ). formBytes (f .form) (length v) ++ y) (sym (take-append-drop l d)) in
     packTrails (k .small) (f .form) v (drop l d) (f .most, rw long (f .holds)) (omega (arith, length-drop l d)) (after-key s k ∙ ap (λ (y : List ℕ). key ++ y) z)
 
+-- a start that is refused is wrong, for that reason
 pub start-refused : (s : List ℕ) (why : Refusal) (place : ℕ) → Bytes s → valueStart s ≡ refused why place → Refused s why place
 unfolding valueStart
 start-refused s why place b h =
@@ -122,6 +124,7 @@ key-first s z a e = (
   ap (drop 16) e ∙ drop-at key z 16 key-long,
 )
 
+-- a start that is wrong is refused, for that reason, in the order of the checks
 pub big-start : (s : List ℕ) → Bytes s → packCap < length s → valueStart s ≡ refused R.Big 0
 unfolding valueStart
 big-start s b h = simp (lt-ltb _ _ h)

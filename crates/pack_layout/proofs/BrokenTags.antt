@@ -19,7 +19,7 @@ use Rattle.pack_layout.specs.Refused.{TagFits, NoTag}
 
 -- more bytes change nothing where none was missing
 module _ (s more : List ℕ) where
-  longer : (at : ℕ) → at < length s → ltb at (length (s ++ more)) ≡ true
+  pub longer : (at : ℕ) → at < length s → ltb at (length (s ++ more)) ≡ true
   longer at h = lt-ltb at (length (s ++ more)) (omega (arith, length-append s more))
 
   groups-longer : (k at n : ℕ) → (tagFrom k s at n ≡ T.Cut → ⊥) → tagFrom k (s ++ more) at n ≡ tagFrom k s at n
@@ -60,6 +60,7 @@ tag-in s at h = split (ltb at (length s)) (λ e. ltb-true _ _ e) (λ e. absurd (
 pub bad-in : (s : List ℕ) (at : ℕ) → tagAt s at ≡ T.Bad → at < length s
 bad-in s at h = tag-in s at (λ c. let z : T.Bad ≡ T.Cut = sym h ∙ c in absurd-eq (cc))
 
+-- a Bad tag is none, whatever may follow it
 pub tag-bad : (s : List ℕ) (at : ℕ) → tagAt s at ≡ T.Bad → NoTag (drop at s)
 tag-bad s at h t more rest f e =
     let i = bad-in s at h in
@@ -67,7 +68,7 @@ tag-bad s at h t more rest f e =
     let z : T.Bad ≡ T.Tag t (at + length (tagBytes t)) = sym h ∙ sym l ∙ tag-stands s more at t rest (omega arith) f e in
     absurd-eq (cc)
 
--- a byte that makes a whole tag of one that is Cut
+-- a byte that makes a tag of one that is Cut
 abbrev pub last : List ℕ
 last = 1 ∷ []
 
@@ -107,7 +108,7 @@ tag-ended s at i h =
     (λ d. let r = groups-ended 4 s at 0 (omega arith) (simp (e, f, d) at h) in
     record { t = r .t; is = simp (l, g, f, d) (r .is) }))
 
--- the tag that it makes
+-- what is there of a tag that is Cut, and the byte, are a tag
 pub record CutTag (s : List ℕ) (at : ℕ) : Type 0 where
   pub t : ℕ
   pub fits : TagFits t
@@ -125,6 +126,7 @@ tag-cut s at b i h =
           ∙ append-nil (tagBytes (r .t));
     }
 
+-- what begins no tag, whatever may follow it, is a Bad one
 pub bad-tag : (s : List ℕ) (at : ℕ) → Bytes s → NoTag (drop at s) → tagAt s at ≡ T.Bad
 bad-tag s at b h = told (tagAt s at) refl
   where
