@@ -7,7 +7,7 @@ use Prim.Native.Nat.{ℕ, zero, suc, _+_, _-_, _<_, _≤_}
 use native.Mathlib.Omega.{arith}
 use lib.Dec.{ltb, leb, eqb}
 use lib.ListN.{length, take, drop, length-take}
-use borrow.Author.Tests.{ltb-true, ltb-false, leb-false, eqb-true, eqb-false, lt-ltb, le-ltb, lt-leb, eq-eqb}
+use borrow.Author.Tests.{ltb-true, ltb-false, leb-true, leb-false, eqb-true, eqb-false, lt-ltb, le-ltb, lt-leb, eq-eqb}
 use Rattle.runs.specs.Digits.{Bytes}
 use Rattle.runs.proofs.Cases.{split, absurd-eq}
 use Rattle.refusals.specs.declared.Refusal.{Refusal}
@@ -35,7 +35,7 @@ pub data InnersRead (q tags : List ℕ) (base : ℕ) : ℕ → ℕ → List Payl
       → InnersRead q tags base (v + l) (used + 1) xs → InnersRead q tags base at used (payload tags (base + at) t (base + v) l ∷ xs)
 
 module _ (q tags : List ℕ) (base : ℕ) where
-  inner-turn : (k at used t v l : ℕ) → at < length q → payloadAt q at ≡ Whole t v l → 3 < t → used < itemCap
+  pub inner-turn : (k at used t v l : ℕ) → at < length q → payloadAt q at ≡ Whole t v l → 3 < t → used < itemCap
       → innersFrom (suc k) q tags base at used
       ≡ andThen (innersFrom k q tags base (v + l) (used + 1)) (λ xs. fine (payload tags (base + at) t (base + v) l ∷ xs))
   inner-turn k at used t v l i e h u = inners-turn q tags base at used k refl i (sym (seen-inner q at used t v l (record { audio = h; there = e }) u))
@@ -85,34 +85,42 @@ pub data ItemsRead (s tags : List ℕ) : ℕ → ℕ → List Part → Bool → 
       → InnersRead (take (l - 4) (drop (v + 4) s)) tags (v + 4) 0 (used + 1) xs
       → ItemsRead s tags (v + l) (used + 1 + length xs) parts mark → ItemsRead s tags at used (many (syncHead s at v l (length xs)) xs ∷ parts) mark
 
-some-of : (at : ℕ) (xs ys : List Payload) → someInside at xs ≡ fine ys → (0 < length ys) × (xs ≡ ys)
+pub some-of : (at : ℕ) (xs ys : List Payload) → someInside at xs ≡ fine ys → (0 < length ys) × (xs ≡ ys)
 unfolding someInside
 some-of at [] ys h = absurd-eq (cc)
 some-of at (x ∷ xs) ys h = let z : x ∷ xs ≡ ys = cc in (subst (λ (l : List Payload). 0 < length l) z (omega arith), z)
 
+-- why a payload with the tag t is no item
+pub data BadItem (s : List ℕ) (used t v l : ℕ) : Refusal → Type 0 where
+  late : t ≡ 1 → BadItem s used t v l R.Place
+  early : t ≡ 3 → (v + l ≡ length s → ⊥) → BadItem s used t v l R.Place
+  unsized : t ≡ 3 → v + l ≡ length s → (l ≡ 4 → ⊥) → BadItem s used t v l R.Crc
+  oneMore : (t ≡ 1 → ⊥) → (t ≡ 3 → ⊥) → itemCap ≤ used → BadItem s used t v l R.Count
+  small : t ≡ 2 → used < itemCap → l < 4 → BadItem s used t v l R.Sync
+
 -- what a payload with the tag t is judged to be
-data Judged (s : List ℕ) (used t v l : ℕ) : Step → Type 0 where
+pub data Judged (s : List ℕ) (used t v l : ℕ) : Step → Type 0 where
   asPlain : (t ≡ 1 → ⊥) → (t ≡ 2 → ⊥) → (t ≡ 3 → ⊥) → used < itemCap → Judged s used t v l (S.Plain t v l)
   asSync : t ≡ 2 → used < itemCap → 4 ≤ l → Judged s used t v l (S.Open v l)
   asCrc : t ≡ 3 → l ≡ 4 → v + l ≡ length s → Judged s used t v l (S.Close v)
-  asBad : (why : Refusal) → Judged s used t v l (S.Bad why)
+  asBad : {why : Refusal} → BadItem s used t v l why → Judged s used t v l (S.Bad why)
 
-judged-of : (s : List ℕ) (used t v l : ℕ) → Judged s used t v l (judged s used t v l)
+pub judged-of : (s : List ℕ) (used t v l : ℕ) → Judged s used t v l (judged s used t v l)
 unfolding judged
 judged-of s used t v l =
     split (eqb t 1)
-    (λ n1. rw n1 (asBad R.Place))
+    (λ n1. rw n1 (asBad (late (eqb-true _ _ n1))))
     (λ n1. split (eqb t 3)
     (λ n3. split (eqb (v + l) (length s))
     (λ z. split (eqb l 4)
     (λ y. rw (n1, n3, z, y) (asCrc (eqb-true _ _ n3) (eqb-true _ _ y) (eqb-true _ _ z)))
-    (λ y. rw (n1, n3, z, y) (asBad R.Crc)))
-    (λ z. rw (n1, n3, z) (asBad R.Place)))
+    (λ y. rw (n1, n3, z, y) (asBad (unsized (eqb-true _ _ n3) (eqb-true _ _ z) (eqb-false _ _ y)))))
+    (λ z. rw (n1, n3, z) (asBad (early (eqb-true _ _ n3) (eqb-false _ _ z)))))
     (λ n3. split (leb itemCap used)
-    (λ c. rw (n1, n3, c) (asBad R.Count))
+    (λ c. rw (n1, n3, c) (asBad (oneMore (eqb-false _ _ n1) (eqb-false _ _ n3) (leb-true _ _ c))))
     (λ c. split (eqb t 2)
     (λ n2. split (ltb l 4)
-    (λ y. rw (n1, n3, c, n2, y) (asBad R.Sync))
+    (λ y. rw (n1, n3, c, n2, y) (asBad (small (eqb-true _ _ n2) (leb-false _ _ c) (ltb-true _ _ y))))
     (λ y. rw (n1, n3, c, n2, y) (asSync (eqb-true _ _ n2) (leb-false _ _ c) (ltb-false _ _ y))))
     (λ n2. rw (n1, n3, c, n2) (asPlain (eqb-false _ _ n1) (eqb-false _ _ n2) (eqb-false _ _ n3) (leb-false _ _ c))))))
 
@@ -127,11 +135,11 @@ module _ (s tags : List ℕ) where
     unfolding itemsFrom itemAt judged
     turn-crc v e z c = simp (lt-ltb _ _ i, e, eq-eqb _ _ z, eq-eqb _ _ c)
 
-    turn-plain : (t v l : ℕ) → payloadAt s at ≡ Whole t v l → 3 < t → used < itemCap
+    pub turn-plain : (t v l : ℕ) → payloadAt s at ≡ Whole t v l → 3 < t → used < itemCap
         → itemsFrom (suc k) s tags at used ≡ andThen (itemsFrom k s tags (v + l) (used + 1)) (with (one (payload tags at t v l)))
     turn-plain t v l e h u = items-turn s tags at used k refl i (sym (seen-item s at used t v l (record { audio = h; there = e }) u))
 
-    turn-sync : (v l : ℕ) → payloadAt s at ≡ Whole 2 v l → 4 ≤ l → used < itemCap
+    pub turn-sync : (v l : ℕ) → payloadAt s at ≡ Whole 2 v l → 4 ≤ l → used < itemCap
         → itemsFrom (suc k) s tags at used
         ≡ andThen (insideOf s tags at v l used)
         (λ xs. andThen (itemsFrom k s tags (v + l) (used + 1 + length xs)) (with (many (syncHead s at v l (length xs)) xs)))
@@ -201,7 +209,7 @@ module _ (s tags : List ℕ) where
     of-judged t v l step e g (asPlain n1 n2 n3 room) = of-plain t v l e (let x = payload-laid s at t v l bytes e in omega (arith, x .low, n1, n2, n3)) room
     of-judged t v l step e g (asSync is2 room long) = of-sync v l (e ∙ ap (λ (n : ℕ). Whole n v l) is2) long room
     of-judged t v l step e g (asCrc is3 four ends) = of-crc v (e ∙ ap₂ (λ (m n : ℕ). Whole m v n) is3 four) (ap (λ (n : ℕ). v + n) (sym four) ∙ ends)
-    of-judged t v l step e g (asBad why) = let i : refused why at ≡ fine b = simp (lt-ltb _ _ inside, e, g) at h in absurd-eq (cc)
+    of-judged t v l step e g (asBad {why} bad) = let i : refused why at ≡ fine b = simp (lt-ltb _ _ inside, e, g) at h in absurd-eq (cc)
 
     of-found : (f : Found) → payloadAt s at ≡ f → ItemsRead s tags at used (b .parts) (b .crc)
     unfolding itemsFrom itemAt

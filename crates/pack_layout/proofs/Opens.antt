@@ -45,14 +45,14 @@ pub data MappingsRead (c : List ℕ) : ℕ → List Mapping → List Mapping →
       → MappingsRead c (n + 16) (seen ++ (mappingOf c t n ∷ [])) more → MappingsRead c at seen (mappingOf c t n ∷ more)
 
 -- a mapping that is read
-record MappingRead (c : List ℕ) (seen : List Mapping) (at : ℕ) (m : Mapping) : Type 0 where
-  t : ℕ
-  n : ℕ
-  few : length seen < mappingCap
-  tag : tagAt c at ≡ T.Tag t n
-  room : n + 16 ≤ length c
-  apart : clashes (tagsOf seen) (labelsOf seen) t (take 16 (drop n c)) ≡ false
-  is : mappingOf c t n ≡ m
+pub record MappingRead (c : List ℕ) (seen : List Mapping) (at : ℕ) (m : Mapping) : Type 0 where
+  pub t : ℕ
+  pub n : ℕ
+  pub few : length seen < mappingCap
+  pub tag : tagAt c at ≡ T.Tag t n
+  pub room : n + 16 ≤ length c
+  pub apart : clashes (tagsOf seen) (labelsOf seen) t (take 16 (drop n c)) ≡ false
+  pub is : mappingOf c t n ≡ m
 
 -- mappings that are read after those of `seen`
 record MappingsAfter (c : List ℕ) (at : ℕ) (seen ms : List Mapping) : Type 0 where
@@ -71,7 +71,7 @@ one-more {c} {seen} d r =
     }
 
 module _ (c : List ℕ) (place : ℕ) where
-  mapping-of : (seen : List Mapping) (at : ℕ) (m : Mapping) → mappingAt c place seen at ≡ fine m → MappingRead c seen at m
+  pub mapping-of : (seen : List Mapping) (at : ℕ) (m : Mapping) → mappingAt c place seen at ≡ fine m → MappingRead c seen at m
   unfolding mappingAt
   mapping-of seen at m h =
       split (leb mappingCap (length seen))
@@ -91,7 +91,7 @@ module _ (c : List ℕ) (place : ℕ) where
           record { t = t; n = n; few = leb-false _ _ a; tag = e; room = omega arith; apart = d; is = cc }))
 
   -- what comes after a mapping
-  abbrev next : (k : ℕ) (seen : List Mapping) → Mapping → Outcome (List Mapping)
+  abbrev pub next : (k : ℕ) (seen : List Mapping) → Mapping → Outcome (List Mapping)
   next k seen m = mappingsFrom k c place (seen ++ (m ∷ [])) (m .place + 16)
 
   pub mappings-run : (k : ℕ) {at : ℕ} {seen more : List Mapping} → MappingsRead c at seen more → length c ≤ at + k

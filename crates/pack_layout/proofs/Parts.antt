@@ -37,6 +37,14 @@ two-bytes s v l b h g =
     ap (λ (n : ℕ). take n (drop v s)) z ∙ take-add 2 (l - 2) (drop v s)
     ∙ ap₂ (λ (x y : List ℕ). x ++ take (l - 2) y) (sym (big-canonical s v 2 b (omega arith))) (drop-drop 2 v s)
 
+-- what follows the first two bytes of a stretch, in the list that ends where the stretch ends
+pub after-two : (s : List ℕ) (v l : ℕ) → 2 ≤ l → drop (v + 2) (take (v + l) s) ≡ take (l - 2) (drop (v + 2) s)
+after-two s v l h = let y : v + l ≡ v + 2 + (l - 2) = omega arith in ap (λ (n : ℕ). drop (v + 2) (take n s)) y ∙ drop-take (v + 2) (l - 2) s
+
+-- two parts, what is inside after them, and what follows
+pub regrouped : (a b x z : List ℕ) → a ++ (b ++ x) ++ z ≡ a ++ (b ++ (x ++ z))
+regrouped a b x z = simp append-assoc
+
 -- key, length, Config, items, and the CRC's tag, length and value
 pub grouped : (a b x y t f c : List ℕ) → a ++ b ++ (x ++ y ++ (t ++ f)) ++ c ≡ a ++ (b ++ (x ++ (y ++ (t ++ (f ++ c)))))
 grouped a b x y t f c = simp append-assoc
