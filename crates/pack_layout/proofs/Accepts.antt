@@ -146,6 +146,12 @@ module _ (s tags : List ℕ) where
     unfolding itemsFrom itemAt judged
     turn-sync v l e h u = simp (lt-ltb _ _ i, e, le-ltb _ _ h, lt-leb _ _ u)
 
+  -- what is read inside a Sync
+  pub inside-run : (at v l used : ℕ) {xs : List Payload} → 0 < length xs → InnersRead (take (l - 4) (drop (v + 4) s)) tags (v + 4) 0 (used + 1) xs
+      → insideOf s tags at v l used ≡ fine xs
+  inside-run at v l used {xs} n ir =
+      then-fine (someInside at) (inners-run (take (l - 4) (drop (v + 4) s)) tags (v + 4) l ir (simp length-take (omega arith))) ∙ inside-some at xs (λ z. omega arith)
+
   pub items-run : (k : ℕ) {at used : ℕ} {parts : List Part} {mark : Bool} → ItemsRead s tags at used parts mark → length s ≤ at + k
       → itemsFrom k s tags at used ≡ fine (record { parts = parts; crc = mark })
   items-run k (ended {at = at} {used = used} h) g = items-end s tags at used k h
@@ -158,10 +164,8 @@ module _ (s tags : List ℕ) where
   items-run zero (nextSync {at = at} v l xs e h u some ir r) g = let x = payload-within s at 2 v l e in absurd (omega arith)
   items-run (suc k) (nextSync {at = at} {used = used} v l xs e h u n ir r) g =
       let x = payload-within s at 2 v l e in
-      let q = take (l - 4) (drop (v + 4) s) in
-      let inside : insideOf s tags at v l used ≡ fine xs = then-fine (someInside at) (inners-run q tags (v + 4) l ir (simp length-take (omega arith))) ∙ inside-some at xs (λ z. omega arith) in
       turn-sync k at used (omega arith) v l e h u
-      ∙ then-fine (λ ys. andThen (itemsFrom k s tags (v + l) (used + 1 + length ys)) (with (many (syncHead s at v l (length ys)) ys))) inside
+      ∙ then-fine (λ ys. andThen (itemsFrom k s tags (v + l) (used + 1 + length ys)) (with (many (syncHead s at v l (length ys)) ys))) (inside-run at v l used n ir)
       ∙ then-fine (with (many (syncHead s at v l (length xs)) xs)) (items-run k r (omega arith))
 
   -- an item of an accepted pack, where what follows it is known

@@ -194,15 +194,18 @@ module _ (s : List ℕ) (b : Bytes s) where
         count = ap₂ (λ (m n : ℕ). 1 + m + n) (d .count) (i .count);
       }
 
+-- the mapping that stands at `at` of c
+pub entry-stands : (c : List ℕ) (at t n : ℕ) → Bytes c → tagAt c at ≡ T.Tag t n → drop at c ≡ tagBytes t ++ (take 16 (drop n c) ++ drop (n + 16) c)
+entry-stands c at t n b e =
+    tag-canonical c at t n b e .0
+    ∙ ap (λ (x : List ℕ). tagBytes t ++ x) (sym (take-append-drop 16 (drop n c)) ∙ ap (λ (x : List ℕ). take 16 (drop n c) ++ x) (drop-drop 16 n c))
+
 -- the mappings that stand from `at` of c on
 entries-stand : {c : List ℕ} {at : ℕ} {seen more : List Mapping} → Bytes c → MappingsRead c at seen more → drop at c ≡ entriesBytes (map entryOf more)
 unfolding entriesBytes
 entries-stand {c} b (noneMapped h) = drop-of-length-le c h
 entries-stand {c} b (nextMapped {at = at} {more = more} t n few e room apart r) =
-    let i = entries-stand b r in
-    tag-canonical c at t n b e .0
-    ∙ ap (λ (x : List ℕ). tagBytes t ++ x)
-    (sym (take-append-drop 16 (drop n c)) ∙ ap (λ (x : List ℕ). take 16 (drop n c) ++ x) (drop-drop 16 n c ∙ i))
+    entry-stands c at t n b e ∙ ap (λ (x : List ℕ). tagBytes t ++ (take 16 (drop n c) ++ x)) (entries-stand b r)
 
 -- a mapping that is read after well-formed ones is well-formed with them
 pub entry-well : (c : List ℕ) (at t n : ℕ) (seen : List Mapping) → Bytes c → tagAt c at ≡ T.Tag t n → n + 16 ≤ length c

@@ -19,6 +19,7 @@ use Rattle.pack.specs.Payloads.{valueFound, tagFound, payloadAt}
 use Rattle.pack.proofs.Payloads.{payload-parsed, payload-within}
 use Rattle.pack_layout.specs.Layout.{element}
 use Rattle.pack_layout.specs.Well.{FormFits}
+use Rattle.pack_layout.specs.Refused.{Has}
 
 -- The value of an element with the tag t that stands at `at` of p, before `rest`: it is found from `from` on.
 pub record Stands (p : List ℕ) (at t : ℕ) (value rest : List ℕ) : Type 0 where
@@ -88,3 +89,12 @@ payload-laid p at t v l b h =
           ∙ ap (λ (y : List ℕ). tagBytes t ++ y) (sym (append-assoc (formBytes (f .form) (length value)) value rest))
           ∙ sym (append-assoc (tagBytes t) (formBytes (f .form) (length value) ++ value) rest);
     }
+
+-- a payload that is found is there as an element
+pub has-laid : (p : List ℕ) (at t v l : ℕ) → Bytes p → payloadAt p at ≡ Whole t v l → Has (drop at p) t (take l (drop v p)) (drop (v + l) p)
+has-laid p at t v l b e =
+    let d = payload-laid p at t v l b e in record { form = d .form; tagged = (d .low, d .high); fits = d .fits; is = d .stands }
+
+-- an element that is there is found
+pub has-back : (p : List ℕ) (at t : ℕ) (v rest : List ℕ) → Has (drop at p) t v rest → Stands p at t v rest
+has-back p at t v rest h = element-back p at t (h .form) v rest (h .is) (h .tagged .0) (h .tagged .1) (h .fits)

@@ -3,7 +3,7 @@ use mathlib.Core.Path.{_≡_, refl, sym, ap, ap₂, subst, _∙_}
 use mathlib.Core.List.{List, [], _∷_, _++_, map, append-assoc, append-nil}
 use mathlib.Core.Bool.{Bool, true, false}
 use Prim.Native.Nat.{ℕ, zero, suc, _+_, _-_, _<_, _≤_}
-use native.Mathlib.Nat.{add-assoc, le-trans, pow-le-pow-right}
+use native.Mathlib.Nat.{le-trans, pow-le-pow-right}
 use native.Mathlib.Omega.{arith}
 use lib.ListN.{length, take, drop, length-append, length-drop, length-map}
 use lib.Seq.{take-at}
@@ -21,7 +21,7 @@ use Rattle.pack.specs.Items.{Part, one, many, syncHead}
 use Rattle.pack.specs.Meaning.{meantName, meantPayload, meantPart}
 use Rattle.pack_layout.specs.Layout.{Element, Chunk, plain, group, Entry, element, elementsBytes, groupBytes, chunksBytes, entryFor, saidElement, saidChunk}
 use Rattle.pack_layout.specs.Well.{WellElements, WellGroup, WellChunks, chunksCount}
-use Rattle.pack_layout.proofs.Parts.{part-stands, two-back}
+use Rattle.pack_layout.proofs.Parts.{part-stands, two-back, inside-back}
 use Rattle.pack_layout.proofs.Elements.{element-back}
 use Rattle.pack_layout.proofs.Accepts.{InnersRead, noneInside, nextInside, ItemsRead, ended, closed, nextPlain, nextSync}
 use Rattle.crc.proofs.Serial.{crc-lt}
@@ -33,12 +33,12 @@ record InnersLaid (s tags : List ℕ) (labels : List (List ℕ)) (ms : List Entr
   means : map (meantPayload s labels) found ≡ map (saidElement ms) xs
 
 -- a Sync's payloads are read where its value stands at v, and it means its two numbers and the elements xs
-record GroupLaid (s tags : List ℕ) (labels : List (List ℕ)) (ms : List Entry) (at v used o d : ℕ) (xs : List Element) : Type 0 where
-  found : List Payload
-  reads : InnersRead (take (length (groupBytes o d xs) - 4) (drop (v + 4) s)) tags (v + 4) 0 (used + 1) found
-  count : length found ≡ length xs
-  long : 4 ≤ length (groupBytes o d xs)
-  means : meantPart s labels (many (syncHead s at v (length (groupBytes o d xs)) (length found)) found) ≡ sync o d (map (saidElement ms) xs)
+pub record GroupLaid (s tags : List ℕ) (labels : List (List ℕ)) (ms : List Entry) (at v used o d : ℕ) (xs : List Element) : Type 0 where
+  pub found : List Payload
+  pub reads : InnersRead (take (length (groupBytes o d xs) - 4) (drop (v + 4) s)) tags (v + 4) 0 (used + 1) found
+  pub count : length found ≡ length xs
+  pub long : 4 ≤ length (groupBytes o d xs)
+  pub means : meantPart s labels (many (syncHead s at v (length (groupBytes o d xs)) (length found)) found) ≡ sync o d (map (saidElement ms) xs)
 
 -- the items are read, and mean the chunks cs
 pub record ItemsLaid (s tags : List ℕ) (labels : List (List ℕ)) (ms : List Entry) (at used : ℕ) (cs : List Chunk) (mark : Bool) : Type 0 where
@@ -71,24 +71,22 @@ module _ (s tags : List ℕ) (labels : List (List ℕ)) (ms : List Entry) (names
         means = ap₂ (λ (y : SaidPayload) (ys : List SaidPayload). y ∷ ys) (meant-element x (base + at) (base + v) (elementsBytes xs ++ rest) stands) (i .means);
       }
 
-  group-laid : (at v used o d : ℕ) (xs : List Element) (rest : List ℕ) {form : ℕ} → drop v s ≡ groupBytes o d xs ++ rest → used + 1 + length xs ≤ itemCap
+  pub group-laid : (at v used o d : ℕ) (xs : List Element) (rest : List ℕ) {form : ℕ} → drop v s ≡ groupBytes o d xs ++ rest → used + 1 + length xs ≤ itemCap
       → WellGroup form o d xs → GroupLaid s tags labels ms at v used o d xs
   group-laid at v used o d xs rest e u w =
       let inside = elementsBytes xs in
       let l = length (groupBytes o d xs) in
-      let size : l ≡ 4 + length inside =
-      omega (arith, length-append (digits 256 2 o) (digits 256 2 d ++ inside), length-append (digits 256 2 d) inside, length-digits 256 2 o, length-digits 256 2 d) in
+      let part = inside-back s v o d inside rest e in
+      let size = part .size in
       let first = two-back s v o ((digits 256 2 d ++ inside) ++ rest) (e ∙ append-assoc (digits 256 2 o) (digits 256 2 d ++ inside) rest) (w .offset) in
       let second = two-back s (v + 2) d (inside ++ rest) (first .1 ∙ append-assoc (digits 256 2 d) inside rest) (w .duration) in
-      let stands : drop (v + 4) s ≡ inside ++ rest = ap (λ (n : ℕ). drop n s) (sym (add-assoc v 2 2)) ∙ second .1 in
-      let part : take (l - 4) (drop (v + 4) s) ≡ inside = ap (take (l - 4)) stands ∙ take-at inside rest (l - 4) (omega arith) in
-      let i = inners-laid xs inside rest (v + 4) 0 (used + 1) stands refl u (w .all) in
+      let i = inners-laid xs inside rest (v + 4) 0 (used + 1) (part .stands) refl u (w .all) in
       let same = i .means in
       let offset = first .0 in
       let duration = second .0 in
       record {
         found = i .found;
-        reads = subst (λ (q : List ℕ). InnersRead q tags (v + 4) 0 (used + 1) (i .found)) (sym part) (i .reads);
+        reads = subst (λ (q : List ℕ). InnersRead q tags (v + 4) 0 (used + 1) (i .found)) (sym (part .part)) (i .reads);
         count = sym (length-map (i .found) (meantPayload s labels)) ∙ ap length (i .means) ∙ length-map xs (saidElement ms);
         long = omega arith;
         means = cc;

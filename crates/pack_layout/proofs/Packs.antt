@@ -37,12 +37,12 @@ unfolding key
 key-long = refl
 
 -- key and length
-record Started (s : List ℕ) (body : List ℕ) : Type 0 where
-  start : ℕ
-  begins : StartRead s start
-  stands : drop start s ≡ body
+pub record Started (s : List ℕ) (body : List ℕ) : Type 0 where
+  pub start : ℕ
+  pub begins : StartRead s start
+  pub stands : drop start s ≡ body
 
-start-laid : (s body : List ℕ) (form n : ℕ) → s ≡ key ++ (formBytes form n ++ body) → n ≡ length body → FormFits form n → length s ≤ packCap → Started s body
+pub start-laid : (s body : List ℕ) (form n : ℕ) → s ≡ key ++ (formBytes form n ++ body) → n ≡ length body → FormFits form n → length s ≤ packCap → Started s body
 start-laid s body form n e m fits small =
     let fb = formBytes form n in
     let e1 : drop 16 s ≡ fb ++ body = ap (drop 16) e ∙ drop-at key (fb ++ body) 16 key-long in
@@ -71,14 +71,14 @@ no-config (nextPlain t w m f h u r) v l e = let z : t ≡ 1 = (let i = sym f ∙
 no-config (nextSync w m xs f h u n i r) v l e = absurd-eq (let i = sym f ∙ e in cc)
 
 -- the Config at `start`, before `rest`
-record Opened (s : List ℕ) (start : ℕ) (first : ConfigLaid) (rest : List ℕ) : Type 0 where
-  mappings : List Mapping
-  next : ℕ
-  opens : OpeningRead s start (offsetLaid first) mappings next
-  entries : map entryOf mappings ≡ entriesLaid first
-  stands : drop next s ≡ rest
+pub record Opened (s : List ℕ) (start : ℕ) (first : ConfigLaid) (rest : List ℕ) : Type 0 where
+  pub mappings : List Mapping
+  pub next : ℕ
+  pub opens : OpeningRead s start (offsetLaid first) mappings next
+  pub entries : map entryOf mappings ≡ entriesLaid first
+  pub stands : drop next s ≡ rest
 
-config-laid : (s rest : List ℕ) (start form o : ℕ) (ms : List Entry) → drop start s ≡ configBytes (config form o ms) ++ rest → WellConfig (config form o ms)
+pub config-laid : (s rest : List ℕ) (start form o : ℕ) (ms : List Entry) → drop start s ≡ configBytes (config form o ms) ++ rest → WellConfig (config form o ms)
     → Opened s start (config form o ms) rest
 unfolding configBytes WellConfig
 config-laid s rest start form o ms e w =
@@ -112,7 +112,7 @@ pub record PackLaid (s : List ℕ) (first : ConfigLaid) (cs : List Chunk) (mark 
   pub marks : read .body .crc ≡ mark
 
 -- each tag means by the mappings what it means by their entries
-names-mean : (mappings : List Mapping) (ms : List Entry) → map entryOf mappings ≡ ms → (t : ℕ) → meantName (labelsOf mappings) (nameOf (tagsOf mappings) t) ≡ entryFor ms t
+pub names-mean : (mappings : List Mapping) (ms : List Entry) → map entryOf mappings ≡ ms → (t : ℕ) → meantName (labelsOf mappings) (nameOf (tagsOf mappings) t) ≡ entryFor ms t
 names-mean mappings ms e t =
     ap₂ (λ (ls : List (List ℕ)) (ts : List ℕ). meantName ls (nameOf ts t)) (sym (labels-entries mappings)) (sym (tags-entries mappings))
     ∙ name-means (map entryOf mappings) t ∙ ap (λ (l : List Entry). entryFor l t) e

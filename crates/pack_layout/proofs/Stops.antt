@@ -1,27 +1,21 @@
--- A refusal among the items says what is wrong: where the reader stops, well-formed chunks stand before, and no item stands there, or a Sync whose payloads
--- go wrong.
+-- A refusal among the items says what is wrong: where the reader stops, well-formed chunks stand before, and what stands there is wrong.
 use mathlib.Core.Path.{_≡_, refl, sym, ap, ap₂, subst, _∙_}
-use mathlib.Core.List.{List, [], _∷_, _++_, append-assoc, append-nil}
-use mathlib.Core.Logic.{_⊎_, inl, inr}
+use mathlib.Core.List.{List, [], _∷_, _++_, append-assoc}
 use mathlib.Core.Bool.{true, false}
 use Prim.Native.Nat.{ℕ, zero, suc, _+_, _-_, _<_, _≤_}
 use native.Mathlib.Omega.{arith}
 use lib.Dec.{ltb, eqb}
-use lib.ListN.{length, take, drop, length-append, length-take, length-drop, drop-of-length-le}
-use lib.Seq.{take-at, take-all, length-take-le}
+use lib.ListN.{length, take, drop, length-take, length-drop}
+use lib.Seq.{length-take-le}
 use borrow.Author.Tests.{ltb-true, eqb-false, eq-eqb, lt-ltb}
-use Rattle.runs.specs.Digits.{digits, Bytes}
+use Rattle.runs.specs.Digits.{Bytes}
 use Rattle.runs.proofs.Cases.{split, absurd-eq}
 use Rattle.refusals.specs.declared.Refusal.{Refusal}
 use Rattle.refusals.specs.declared.Refusal.the-variants as R
 use Rattle.refusals.specs.Outcomes.{Outcome, fine, refused, andThen}
-use Rattle.refusals.proofs.Outcomes.{then-was}
-use Rattle.numbers.specs.Tags.{tagBytes}
-use Rattle.numbers.specs.Lengths.{formBytes}
+use Rattle.refusals.proofs.Outcomes.{then-was, then-stops, then-kept}
 use Rattle.numbers.specs.Big.{bigAt}
-use Rattle.numbers.proofs.Big.{big-back, big-lt}
 use Rattle.crc.specs.Crc.{crcOf}
-use Rattle.crc.proofs.Serial.{crc-lt}
 use Rattle.pack.specs.Fixed.{itemCap}
 use Rattle.pack.specs.declared.Found.{Found}
 use Rattle.pack.specs.declared.Found.the-variants.{Whole, Wrong}
@@ -30,40 +24,17 @@ use Rattle.pack.specs.declared.Step.{Step}
 use Rattle.pack.specs.Payloads.{payloadAt, payload, innersFrom}
 use Rattle.pack.specs.Items.{Body, one, many, judged, itemAt, someInside, insideOf, syncHead, with, itemsFrom}
 use Rattle.pack.proofs.Payloads.{payload-within}
-use Rattle.pack_layout.specs.Layout.{Element, Chunk, plain, group, element, elementsBytes, groupBytes, chunksBytes}
-use Rattle.pack_layout.specs.Well.{FormFits, WellElements, WellChunk, WellChunks, chunksCount}
-use Rattle.pack_layout.specs.Refused.{Has, NoInner, NoItem, itemBroken, lateConfig, earlyCrc, itemTooMany, longCrc, wrongCrc, emptySync}
-use Rattle.pack_layout.proofs.Parts.{part-bytes, regrouped}
-use Rattle.pack_layout.proofs.Elements.{payload-laid}
-use Rattle.pack_layout.proofs.Accepts.{InnersRead, noneInside, inners-of, some-of, BadItem, late, early, unsized, oneMore, small, Judged, asPlain, asSync, asCrc, asBad, judged-of, turn-plain, turn-sync}
+use Rattle.pack_layout.specs.Layout.{Chunk, plain, group, element, groupBytes, chunksBytes}
+use Rattle.pack_layout.specs.Well.{WellChunk, WellChunks, chunksCount}
+use Rattle.pack_layout.specs.Refused.{itemBroken, emptySync}
+use Rattle.pack_layout.proofs.Parts.{part-bytes, left-place}
+use Rattle.pack_layout.proofs.Elements.{payload-laid, has-laid}
+use Rattle.pack_layout.proofs.Accepts.{InnersRead, noneInside, inners-of, some-of, Judged, asPlain, asSync, asCrc, asBad, judged-of, turn-plain, turn-sync}
 use Rattle.pack_layout.proofs.Counts.{inners-count}
-use Rattle.pack_layout.proofs.Described.{element-described, sync-described, group-value}
+use Rattle.pack_layout.proofs.Described.{element-described, sync-described}
 use Rattle.pack_layout.proofs.Broken.{element-broken}
-use Rattle.pack_layout.proofs.StopsInside.{then-stops, then-kept, has-laid, left-place, InnersStop, inners-stop}
-
--- what is wrong where no item begins w, whatever start and content of the pack stand before; only a Config may be the first there
-abbrev pub NoItemAfter : List ℕ → List ℕ → ℕ → Refusal → Type 0
-NoItemAfter s w used why =
-    (start content : List ℕ) → s ≡ start ++ (content ++ w) → ((v rest : List ℕ) → Has w 1 v rest → 0 < length content) → NoItem start content w used why
-
--- what is wrong inside the Sync that begins w
-pub record WrongSync (s w : List ℕ) (used : ℕ) (why : Refusal) (place : ℕ) : Type 0 where
-  pub rest : List ℕ
-  pub offset : ℕ
-  pub duration : ℕ
-  pub elements : List Element
-  pub left : List ℕ
-  pub offsetFits : offset < 65536
-  pub durationFits : duration < 65536
-  pub well : WellElements elements
-  pub few : used + 1 + length elements ≤ itemCap
-  pub has : Has w 2 (groupBytes offset duration elements ++ left) rest
-  pub wrong : NoInner left (used + 1 + length elements) why
-  pub there : place ≡ length s - length (left ++ rest)
-
-pub data WrongAt (s w : List ℕ) (used : ℕ) (why : Refusal) (place : ℕ) : Type 0 where
-  noItem : place ≡ length s - length w → NoItemAfter s w used why → WrongAt s w used why place
-  inGroup : WrongSync s w used why place → WrongAt s w used why place
+use Rattle.pack_layout.proofs.StopsInside.{inners-stop}
+use Rattle.pack_layout.proofs.Wrong.{NoItemAfter, WrongAt, noItem, inGroup, value-length, bad-item, crc-wrong, sync-wrong}
 
 -- the chunks that stand from `at` of s on, before what is wrong
 pub record ItemsStop (s : List ℕ) (at used : ℕ) (why : Refusal) (place : ℕ) : Type 0 where
@@ -73,14 +44,6 @@ pub record ItemsStop (s : List ℕ) (at used : ℕ) (why : Refusal) (place : ℕ
   pub stands : drop at s ≡ chunksBytes chunks ++ left
   pub few : used + chunksCount chunks ≤ itemCap
   pub wrong : WrongAt s left (used + chunksCount chunks) why place
-
--- the pack up to the value of the CRC that ends it
-pub before-crc : (s start content t f c : List ℕ) (v : ℕ) → s ≡ start ++ (content ++ (t ++ (f ++ c) ++ [])) → v + length c ≡ length s
-    → take v s ≡ start ++ (content ++ (t ++ f))
-before-crc s start content t f c v e z =
-    let before = start ++ (content ++ (t ++ f)) in
-    let whole : s ≡ before ++ c = e ∙ simp (append-assoc, append-nil) in
-    ap (take v) whole ∙ take-at before c v (omega (arith, ap length whole, length-append before c))
 
 -- a Sync in which nothing was read has no bytes there
 none-read : {q tags : List ℕ} {base at used : ℕ} → InnersRead q tags base at used [] → length q ≤ at
@@ -123,87 +86,10 @@ module _ (s tags : List ℕ) (b : Bytes s) where
         wrong = subst (λ (m : ℕ). WrongAt s (r .left) m why place) total (r .wrong);
       }
 
-  -- a payload that ends the pack
-  has-last : (at t v l : ℕ) → payloadAt s at ≡ Whole t v l → v + l ≡ length s → Has (drop at s) t (take l (drop v s)) []
-  has-last at t v l e ends =
-      let d = payload-laid s at t v l b e in
-      let none : drop (v + l) s ≡ [] = drop-of-length-le s {i = v + l} (omega arith) in
-      record {
-        form = d .form;
-        tagged = (d .low, d .high);
-        fits = d .fits;
-        is = d .stands ∙ ap (λ (y : List ℕ). element t (d .form) (take l (drop v s)) ++ y) none;
-      }
-
-  value-length : (at t v l : ℕ) → payloadAt s at ≡ Whole t v l → length (take l (drop v s)) ≡ l
-  value-length at t v l e = let x = payload-within s at t v l e in length-take-le l (drop v s) (simp length-drop (omega arith))
-
-  -- why a payload with the tag t is no item, in the words of the layout
-  bad-item : {why : Refusal} (at used t v l : ℕ) → payloadAt s at ≡ Whole t v l → BadItem s used t v l why → NoItemAfter s (drop at s) used why
-  bad-item at used t v l e (late is1) start content is first =
-      let h = has-laid s at 1 v l b (e ∙ ap (λ (n : ℕ). Whole n v l) is1) in lateConfig _ _ h (first _ _ h)
-  bad-item at used t v l e (early is3 before) start content is first =
-      let x = payload-within s at t v l e in
-      earlyCrc _ _ (has-laid s at 3 v l b (e ∙ ap (λ (n : ℕ). Whole n v l) is3)) (simp length-drop (omega (arith, before)))
-  bad-item at used t v l e (unsized is3 ends other) start content is first =
-      longCrc _ (has-last at 3 v l (e ∙ ap (λ (n : ℕ). Whole n v l) is3) ends) (λ z. other (sym (value-length at t v l e) ∙ z))
-  bad-item at used t v l e (oneMore n1 n3 full) start content is first = itemTooMany t _ _ (has-laid s at t v l b e) n1 n3 full
-  bad-item at used t v l e (small is2 room few) start content is first =
-      emptySync _ _ (has-laid s at 2 v l b (e ∙ ap (λ (n : ℕ). Whole n v l) is2)) room (omega (arith, value-length at t v l e))
-
-  -- a CRC of four bytes that ends the pack and is not that of the bytes before it
-  crc-wrong : (at used v : ℕ) → payloadAt s at ≡ Whole 3 v 4 → v + 4 ≡ length s → (bigAt s v 4 ≡ crcOf (take v s) → ⊥) → NoItemAfter s (drop at s) used R.Crc
-  crc-wrong at used v e ends bad start content is first =
-      let h = has-last at 3 v 4 e ends in
-      let c = take 4 (drop v s) in
-      let t = tagBytes 3 in
-      let f = formBytes (h .form) 4 in
-      let four : length c ≡ 4 = value-length at 3 v 4 e in
-      let whole : s ≡ start ++ (content ++ (t ++ (f ++ c) ++ [])) =
-      is ∙ ap (λ (w : List ℕ). start ++ (content ++ w)) (h .is ∙ ap (λ (n : ℕ). t ++ (formBytes (h .form) n ++ c) ++ []) four) in
-      let before = start ++ (content ++ (t ++ f)) in
-      let front : take v s ≡ before = before-crc s start content t f c v whole (omega arith) in
-      let last : drop v s ≡ c = sym (take-all 4 (drop v s) (simp length-drop (omega arith))) in
-      wrongCrc c h four
-      (λ good. bad (big-back s v 4 (crcOf before) [] (last ∙ good ∙ sym (append-nil (digits 256 4 (crcOf before)))) (crc-lt before) ∙ ap crcOf (sym front)))
-
-  -- a Sync whose payloads go wrong
-  sync-wrong : {why : Refusal} {place : ℕ} (at used v l : ℕ) → payloadAt s at ≡ Whole 2 v l → 4 ≤ l
-      → InnersStop (take (l - 4) (drop (v + 4) s)) (v + 4) 0 (used + 1) why place → WrongSync s (drop at s) used why place
-  sync-wrong at used v l e h r =
-      let d = payload-laid s at 2 v l b e in
-      let x = payload-within s at 2 v l e in
-      let o = bigAt s v 2 in
-      let duration = bigAt s (v + 2) 2 in
-      let rest = drop (v + l) s in
-      let value : take l (drop v s) ≡ groupBytes o duration (r .elements) ++ r .left =
-      group-value s b v l (omega arith) h ∙ ap (λ (y : List ℕ). digits 256 2 o ++ (digits 256 2 duration ++ y)) (r .stands)
-      ∙ sym (regrouped (digits 256 2 o) (digits 256 2 duration) (elementsBytes (r .elements)) (r .left)) in
-      let size : length (take (l - 4) (drop (v + 4) s)) ≡ l - 4 = length-take-le (l - 4) (drop (v + 4) s) (simp length-drop (omega arith)) in
-      let inside = ap length (r .stands) ∙ length-append (elementsBytes (r .elements)) (r .left) in
-      record {
-        rest = rest;
-        offset = o;
-        duration = duration;
-        elements = r .elements;
-        left = r .left;
-        offsetFits = big-lt s v 2 b;
-        durationFits = big-lt s (v + 2) 2 b;
-        well = r .well;
-        few = r .few;
-        has = record {
-          form = d .form;
-          tagged = (d .low, d .high);
-          fits = subst (λ (y : List ℕ). FormFits (d .form) (length y)) value (d .fits);
-          is = d .stands ∙ ap (λ (y : List ℕ). element 2 (d .form) y ++ rest) value;
-        };
-        wrong = r .wrong;
-        there = omega (arith, r .there, size, inside, length-append (r .left) rest, length-drop (v + l) s);
-      }
-
-  -- a Sync that is refused: what is inside it, that nothing is, or what comes after it
+  -- an item where the reader stops, or after which it does
   module _ (k at used : ℕ) {why : Refusal} {place : ℕ} (i : at < length s) (u : used ≤ itemCap) (h : itemsFrom (suc k) s tags at used ≡ refused why place)
       (rest : (m n : ℕ) → at < m → n ≤ itemCap → itemsFrom k s tags m n ≡ refused why place → ItemsStop s m n why place) where
+    -- after a payload
     stop-plain : (t v l : ℕ) → payloadAt s at ≡ Whole t v l → 3 < t → used < itemCap → ItemsStop s at used why place
     unfolding chunksBytes chunksCount
     stop-plain t v l e above room =
@@ -215,6 +101,7 @@ module _ (s tags : List ℕ) (b : Bytes s) where
         more-items at used (v + l) 1 (plain y) (element (y .tag) (y .form) (y .value)) (d .well) (d .stands) (λ cs. refl) (λ cs. refl)
         (rest (v + l) (used + 1) (omega arith) (omega arith) r)
 
+    -- after a Sync
     stop-after : (v l : ℕ) (ps : List Payload) → payloadAt s at ≡ Whole 2 v l → 4 ≤ l → used < itemCap → 0 < length ps
         → InnersRead (take (l - 4) (drop (v + 4) s)) tags (v + 4) 0 (used + 1) ps
         → itemsFrom k s tags (v + l) (used + 1 + length ps) ≡ refused why place → ItemsStop s at used why place
@@ -237,39 +124,33 @@ module _ (s tags : List ℕ) (b : Bytes s) where
         let n = none-inside at ps none in
         let size : length q ≡ l - 4 = length-take-le (l - 4) (drop (v + 4) s) (simp length-drop (omega arith)) in
         let empty = none-read (inners-of q tags (v + 4) l 0 (used + 1) [] (simp length-take (omega arith)) (inner ∙ ap fine (n .0))) in
-        let few : length (take l (drop v s)) ≤ 4 = omega (arith, value-length at 2 v l e, size, empty) in
+        let few : length (take l (drop v s)) ≤ 4 = omega (arith, value-length s b at 2 v l e, size, empty) in
         stop-item at used i u (n .1) (n .2) (λ start content is first. emptySync _ _ (has-laid s at 2 v l b e) room few)
 
+    -- among the payloads of a Sync
     stop-inside : (v l : ℕ) → payloadAt s at ≡ Whole 2 v l → 4 ≤ l → used < itemCap → insideOf s tags at v l used ≡ refused why place → ItemsStop s at used why place
-    stop-inside v l e long room r = by (then-stops (innersFrom l (take (l - 4) (drop (v + 4) s)) tags (v + 4) 0 (used + 1)) (someInside at) r)
-      where
-        by : (innersFrom l (take (l - 4) (drop (v + 4) s)) tags (v + 4) 0 (used + 1) ≡ refused why place)
-            ⊎ ((ps : List Payload) × (innersFrom l (take (l - 4) (drop (v + 4) s)) tags (v + 4) 0 (used + 1) ≡ fine ps) × (someInside at ps ≡ refused why place))
-            → ItemsStop s at used why place
-        by (inl z) =
-            stop-here at used u
-            (inGroup (sync-wrong at used v l e long
-            (inners-stop (take (l - 4) (drop (v + 4) s)) tags (v + 4) (part-bytes s (v + 4) (l - 4) b) l 0 (used + 1) (simp length-take (omega arith)) (omega arith) z)))
-        by (inr z) = stop-empty v l (z .0) e room (z .1) (z .2)
-
-    -- what is read after a Sync
-    abbrev afterSync : ℕ → ℕ → List Payload → Outcome Body
-    afterSync v l ps = andThen (itemsFrom k s tags (v + l) (used + 1 + length ps)) (with (many (syncHead s at v l (length ps)) ps))
+    stop-inside v l e long room r =
+        let q = take (l - 4) (drop (v + 4) s) in
+        then-stops (innersFrom l q tags (v + 4) 0 (used + 1)) (someInside at) r
+        (λ z. let w = inners-stop q tags (v + 4) (part-bytes s (v + 4) (l - 4) b) l 0 (used + 1) (simp length-take (omega arith)) (omega arith) z in
+        stop-here at used u (inGroup (sync-wrong s b at used v l e long w)))
+        (λ ps inner none. stop-empty v l ps e room inner none)
 
     stop-sync : (v l : ℕ) → payloadAt s at ≡ Whole 2 v l → 4 ≤ l → used < itemCap → ItemsStop s at used why place
-    stop-sync v l e long room = by (then-stops (insideOf s tags at v l used) (afterSync v l) (sym (turn-sync s tags k at used i v l e long room) ∙ h))
-      where
-        by : (insideOf s tags at v l used ≡ refused why place) ⊎ ((ps : List Payload) × (insideOf s tags at v l used ≡ fine ps) × (afterSync v l ps ≡ refused why place))
-            → ItemsStop s at used why place
-        by (inl z) = stop-inside v l e long room z
-        by (inr z) =
-            let ps = z .0 in
-            let j = then-was (innersFrom l (take (l - 4) (drop (v + 4) s)) tags (v + 4) 0 (used + 1)) (someInside at) (z .1) in
-            let n = some-of at (j .0) ps (j .2) in
-            let inner = inners-of (take (l - 4) (drop (v + 4) s)) tags (v + 4) l 0 (used + 1) ps (simp length-take (omega arith)) (j .1 ∙ ap fine (n .1)) in
-            stop-after v l ps e long room (n .0) inner
-            (then-kept (itemsFrom k s tags (v + l) (used + 1 + length ps)) (λ c. record { parts = many (syncHead s at v l (length ps)) ps ∷ c .parts; crc = c .crc }) (z .2))
+    stop-sync v l e long room =
+        let q = take (l - 4) (drop (v + 4) s) in
+        then-stops (insideOf s tags at v l used)
+        (λ xs. andThen (itemsFrom k s tags (v + l) (used + 1 + length xs)) (with (many (syncHead s at v l (length xs)) xs)))
+        (sym (turn-sync s tags k at used i v l e long room) ∙ h)
+        (λ z. stop-inside v l e long room z)
+        (λ ps inside z. let j = then-was (innersFrom l q tags (v + 4) 0 (used + 1)) (someInside at) inside in
+        let n = some-of at (j .0) ps (j .2) in
+        let inner = inners-of q tags (v + 4) l 0 (used + 1) ps (simp length-take (omega arith)) (j .1 ∙ ap fine (n .1)) in
+        let c = many (syncHead s at v l (length ps)) ps in
+        stop-after v l ps e long room (n .0) inner
+        (then-kept (itemsFrom k s tags (v + l) (used + 1 + length ps)) (λ body. record { parts = c ∷ body .parts; crc = body .crc }) z))
 
+    -- at a CRC of four bytes that ends the pack
     stop-crc : (v : ℕ) → payloadAt s at ≡ Whole 3 v 4 → v + 4 ≡ length s → ItemsStop s at used why place
     unfolding itemsFrom itemAt judged
     stop-crc v e ends =
@@ -278,8 +159,9 @@ module _ (s tags : List ℕ) (b : Bytes s) where
         split (eqb (bigAt s v 4) (crcOf (take v s)))
         (λ c. let j : _≡_ {A = Outcome Body} (fine (record { parts = []; crc = true })) (refused why place) = simp (a, e, y, c) at h in absurd-eq (cc))
         (λ c. let j : _≡_ {A = Outcome Body} (refused R.Crc at) (refused why place) = simp (a, e, y, c) at h in
-        stop-item at used i u (cc) (cc) (crc-wrong at used v e ends (eqb-false _ _ c)))
+        stop-item at used i u (cc) (cc) (crc-wrong s b at used v e ends (eqb-false _ _ c)))
 
+    -- by what the payload there is judged to be
     stop-judged : (t v l : ℕ) (step : Step) → payloadAt s at ≡ Whole t v l → judged s used t v l ≡ step → Judged s used t v l step → ItemsStop s at used why place
     unfolding itemsFrom itemAt
     stop-judged t v l step e g (asPlain n1 n2 n3 room) = stop-plain t v l e (let x = payload-laid s at t v l b e in omega (arith, x .low, n1, n2, n3)) room
@@ -287,7 +169,7 @@ module _ (s tags : List ℕ) (b : Bytes s) where
     stop-judged t v l step e g (asCrc is3 four ends) = stop-crc v (e ∙ ap₂ (λ (m n : ℕ). Whole m v n) is3 four) (ap (λ (n : ℕ). v + n) (sym four) ∙ ends)
     stop-judged t v l step e g (asBad {why = w} bad) =
         let j : _≡_ {A = Outcome Body} (refused w at) (refused why place) = simp (lt-ltb _ _ i, e, g) at h in
-        stop-item at used i u (cc) (cc) (bad-item at used t v l e bad)
+        stop-item at used i u (cc) (cc) (bad-item s b at used t v l e bad)
 
     stop-found : (f : Found) → payloadAt s at ≡ f → ItemsStop s at used why place
     unfolding itemsFrom itemAt

@@ -1,13 +1,12 @@
 -- A refusal of a Config says what is wrong: where the reader stops among its mappings, well-formed ones stand before, and none stands there.
 use mathlib.Core.Path.{_≡_, refl, sym, ap, ap₂, subst, _∙_}
 use mathlib.Core.List.{List, [], _∷_, _++_, map, append-assoc, append-nil, map-append}
-use mathlib.Core.Logic.{_⊎_, inl, inr}
 use mathlib.Core.Bool.{false}
 use Prim.Native.Nat.{ℕ, zero, suc, _+_, _-_, _<_, _≤_}
 use native.Mathlib.Omega.{arith}
 use lib.Dec.{ltb, leb}
-use lib.ListN.{length, take, drop, length-take, length-drop, length-map, take-append-drop}
-use lib.Seq.{drop-drop, length-take-le}
+use lib.ListN.{length, take, drop, length-take, length-drop, length-map}
+use lib.Seq.{length-take-le}
 use borrow.Author.Tests.{ltb-true, ltb-false, leb-true, leb-false}
 use Rattle.runs.specs.Digits.{digits, Bytes}
 use Rattle.runs.proofs.Cases.{split, absurd-eq}
@@ -15,12 +14,13 @@ use Rattle.runs.proofs.Below.{below-take}
 use Rattle.refusals.specs.declared.Refusal.{Refusal}
 use Rattle.refusals.specs.declared.Refusal.the-variants as R
 use Rattle.refusals.specs.Outcomes.{Outcome, fine, refused}
+use Rattle.refusals.proofs.Outcomes.{then-stops}
 use Rattle.numbers.specs.declared.TagRead.{TagRead}
 use Rattle.numbers.specs.declared.TagRead.the-variants as T
 use Rattle.numbers.specs.Tags.{tagAt, tagBytes}
 use Rattle.numbers.specs.Big.{bigAt}
 use Rattle.numbers.proofs.Big.{big-lt}
-use Rattle.numbers.proofs.Tags.{tag-next, tag-range, tag-canonical}
+use Rattle.numbers.proofs.Tags.{tag-next, tag-range}
 use Rattle.pack.specs.Fixed.{mappingCap}
 use Rattle.pack.specs.Config.{Mapping, tagsOf, labelsOf, clashes, mappingAt, mappingsFrom, configMaps}
 use Rattle.pack.proofs.Turns.{mappings-turn}
@@ -31,10 +31,9 @@ use Rattle.pack_layout.proofs.Parts.{two-bytes, after-two, regrouped}
 use Rattle.pack_layout.proofs.Opens.{mappingOf, mapping-of, next}
 use Rattle.pack_layout.proofs.Entries.{entryOf}
 use Rattle.pack_layout.proofs.Mapped.{tags-entries, labels-entries}
-use Rattle.pack_layout.proofs.Described.{entry-well}
+use Rattle.pack_layout.proofs.Described.{entry-stands, entry-well}
 use Rattle.pack_layout.proofs.BrokenTags.{tag-bad}
 use Rattle.pack_layout.proofs.Broken.{EntryLacks, tag-cut-lacks, label-cut-lacks}
-use Rattle.pack_layout.proofs.StopsInside.{then-stops}
 
 -- the bytes of mappings and of one more
 entries-then : (ms : List Entry) (m : Entry) (rest : List ℕ) → entriesBytes (ms ++ (m ∷ [])) ++ rest ≡ entriesBytes ms ++ (tagBytes (m .tag) ++ (m .stands ++ rest))
@@ -44,12 +43,6 @@ entries-then (p ∷ ms) m rest =
     regrouped (tagBytes (p .tag)) (p .stands) (entriesBytes (ms ++ (m ∷ []))) rest
     ∙ ap (λ (x : List ℕ). tagBytes (p .tag) ++ (p .stands ++ x)) (entries-then ms m rest)
     ∙ sym (regrouped (tagBytes (p .tag)) (p .stands) (entriesBytes ms) (tagBytes (m .tag) ++ (m .stands ++ rest)))
-
--- the mapping that stands at `at` of c
-entry-stands : (c : List ℕ) (at t n : ℕ) → Bytes c → tagAt c at ≡ T.Tag t n → drop at c ≡ tagBytes t ++ (take 16 (drop n c) ++ drop (n + 16) c)
-entry-stands c at t n b e =
-    tag-canonical c at t n b e .0
-    ∙ ap (λ (x : List ℕ). tagBytes t ++ x) (sym (take-append-drop 16 (drop n c)) ∙ ap (λ (x : List ℕ). take 16 (drop n c) ++ x) (drop-drop 16 n c))
 
 module _ (c : List ℕ) (place : ℕ) (b : Bytes c) where
   -- no mapping that the reader takes after those of `seen` begins at `at`
@@ -69,13 +62,14 @@ module _ (c : List ℕ) (place : ℕ) (b : Bytes c) where
       lacking : length (map entryOf seen) < mappingCap → EntryLacks (drop at c) → NoEntry (map entryOf seen) (drop at c) R.Config
       lacking few l = entryRunsOut few (l .t) (l .label) (l .tagged) (l .long) (l .lacks)
 
+      room : leb mappingCap (length seen) ≡ false → length (map entryOf seen) < mappingCap
+      room a = omega (arith, leb-false, length-map seen entryOf)
+
       tagged : (r : TagRead) → tagAt c at ≡ r → leb mappingCap (length seen) ≡ false → NoEntry (map entryOf seen) (drop at c) why × (place ≡ p)
-      tagged T.Bad e a = let few : length (map entryOf seen) < mappingCap = omega (arith, leb-false, length-map seen entryOf) in
-          told (simp (a, e) at h) (entryBadTag few (tag-bad c at e))
-      tagged T.Cut e a = let few : length (map entryOf seen) < mappingCap = omega (arith, leb-false, length-map seen entryOf) in
-          told (simp (a, e) at h) (lacking few (tag-cut-lacks c at b i e))
+      tagged T.Bad e a = told (simp (a, e) at h) (entryBadTag (room a) (tag-bad c at e))
+      tagged T.Cut e a = told (simp (a, e) at h) (lacking (room a) (tag-cut-lacks c at b i e))
       tagged (T.Tag t n) e a =
-          let few : length (map entryOf seen) < mappingCap = omega (arith, leb-false, length-map seen entryOf) in
+          let few = room a in
           split (ltb (length c - n) 16)
           (λ y. told (simp (a, e, y) at h) (lacking few (label-cut-lacks c at t n b e (ltb-true _ _ y))))
           (λ y. split (clashes (tagsOf seen) (labelsOf seen) t (take 16 (drop n c)))
@@ -83,6 +77,15 @@ module _ (c : List ℕ) (place : ℕ) (b : Bytes c) where
           (entryTaken few t (take 16 (drop n c)) (drop (n + 16) c) (tag-range c at t n b e) (length-take-le 16 (drop n c) (simp length-drop (ltb-false _ _ y))) (entry-stands c at t n b e)
           (ap₂ (λ (x : List ℕ) (z : List (List ℕ)). clashes x z t (take 16 (drop n c))) (tags-entries seen) (labels-entries seen) ∙ d)))
           (λ d. let j : fine (mappingOf c t n) ≡ refused why p = simp (a, e, y, d) at h in absurd-eq (cc)))
+
+  -- the bytes of the mappings of `seen` and of the one at `at`
+  one-more : (seen : List Mapping) (at t n : ℕ) → tagAt c at ≡ T.Tag t n
+      → entriesBytes (map entryOf (seen ++ (mappingOf c t n ∷ []))) ++ drop (n + 16) c ≡ entriesBytes (map entryOf seen) ++ drop at c
+  one-more seen at t n e =
+      let m = mappingOf c t n in
+      let rest = drop (n + 16) c in
+      ap (λ (y : List Entry). entriesBytes y ++ rest) (map-append entryOf seen (m ∷ [])) ∙ entries-then (map entryOf seen) (entryOf m) rest
+      ∙ ap (λ (y : List ℕ). entriesBytes (map entryOf seen) ++ y) (sym (entry-stands c at t n b e))
 
   -- the mappings that stand before where the reader stops, in the value of the Config
   module _ (value : List ℕ) (o : ℕ) (fits : o < 65536) where
@@ -94,27 +97,15 @@ module _ (c : List ℕ) (place : ℕ) (b : Bytes c) where
     mappings-stop (suc k) seen at {why} {p} g w e h =
         split (ltb at (length c))
         (λ a. let i : at < length c = ltb-true _ _ a in
-        by (λ more n l ww ee hh. mappings-stop k more n l ww ee hh) i
-        (then-stops (mappingAt c place seen at) (next c place k seen) (sym (mappings-turn c place seen at k refl i refl) ∙ h)))
+        then-stops (mappingAt c place seen at) (next c place k seen) (sym (mappings-turn c place seen at k refl i refl) ∙ h)
+        (λ z. let n = entry-stop seen at i z in (configEntry o (map entryOf seen) (drop at c) fits w e (n .0), n .1))
+        (λ m is z. let d = mapping-of c place seen at m is in
+        let t = d .t in
+        let n = d .n in
+        let x = tag-next c at t n (d .tag) in
+        mappings-stop k (seen ++ (mappingOf c t n ∷ [])) (n + 16) (omega arith) (entry-well c at t n seen b (d .tag) (d .room) (d .apart) w)
+        (e ∙ ap (λ (y : List ℕ). digits 256 2 o ++ y) (sym (one-more seen at t n (d .tag)))) (ap (next c place k seen) (d .is) ∙ z)))
         (λ a. let j : fine seen ≡ refused why p = simp a at h in absurd-eq (cc))
-      where
-        by : ((more : List Mapping) (n : ℕ) → length c ≤ n + k → WellEntries (map entryOf more) → value ≡ digits 256 2 o ++ (entriesBytes (map entryOf more) ++ drop n c)
-            → mappingsFrom k c place more n ≡ refused why p → NoConfig value why × (place ≡ p))
-            → at < length c
-            → (mappingAt c place seen at ≡ refused why p) ⊎ ((m : Mapping) × (mappingAt c place seen at ≡ fine m) × (next c place k seen m ≡ refused why p))
-            → NoConfig value why × (place ≡ p)
-        by ih i (inl z) = let n = entry-stop seen at i z in (configEntry o (map entryOf seen) (drop at c) fits w e (n .0), n .1)
-        by ih i (inr z) =
-            let d = mapping-of c place seen at (z .0) (z .1) in
-            let t = d .t in
-            let n = d .n in
-            let m = mappingOf c t n in
-            let x = tag-next c at t n (d .tag) in
-            let bytes : entriesBytes (map entryOf (seen ++ (m ∷ []))) ++ drop (n + 16) c ≡ entriesBytes (map entryOf seen) ++ drop at c =
-            ap (λ (y : List Entry). entriesBytes y ++ drop (n + 16) c) (map-append entryOf seen (m ∷ [])) ∙ entries-then (map entryOf seen) (entryOf m) (drop (n + 16) c)
-            ∙ ap (λ (y : List ℕ). entriesBytes (map entryOf seen) ++ y) (sym (entry-stands c at t n b (d .tag))) in
-            ih (seen ++ (m ∷ [])) (n + 16) (omega arith) (entry-well c at t n seen b (d .tag) (d .room) (d .apart) w)
-            (e ∙ ap (λ (y : List ℕ). digits 256 2 o ++ y) (sym bytes)) (ap (next c place k seen) (d .is) ∙ z .2)
 
 -- the Config at `at`, whose value runs l bytes from v
 pub config-stop : (s : List ℕ) (at v l : ℕ) {why : Refusal} {p : ℕ} → Bytes s → v + l ≤ length s → configMaps s at v l ≡ refused why p

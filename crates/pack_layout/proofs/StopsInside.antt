@@ -1,18 +1,17 @@
--- A refusal says what is wrong: where the reader stops among the items of a pack, or among the payloads of a Sync, well-formed ones stand before, and none
--- stands there.
+-- A refusal among the payloads of a Sync says what is wrong: where the reader stops, well-formed payloads stand before, and none stands there.
 use mathlib.Core.Path.{_≡_, refl, sym, ap, subst, _∙_}
 use mathlib.Core.List.{List, [], _∷_, _++_, append-assoc}
-use mathlib.Core.Logic.{_⊎_, inl, inr}
 use mathlib.Core.Bool.{true}
 use Prim.Native.Nat.{ℕ, zero, suc, _+_, _-_, _<_, _≤_}
 use native.Mathlib.Omega.{arith}
 use lib.Dec.{ltb, leb}
-use lib.ListN.{length, take, drop, length-drop}
+use lib.ListN.{length, drop}
 use borrow.Author.Tests.{ltb-true, leb-true, leb-false}
 use Rattle.runs.specs.Digits.{Bytes}
 use Rattle.runs.proofs.Cases.{split, absurd-eq}
 use Rattle.refusals.specs.declared.Refusal.{Refusal}
-use Rattle.refusals.specs.Outcomes.{Outcome, fine, refused, andThen}
+use Rattle.refusals.specs.Outcomes.{Outcome, fine, refused}
+use Rattle.refusals.proofs.Outcomes.{then-kept}
 use Rattle.pack.specs.Fixed.{itemCap}
 use Rattle.pack.specs.declared.Found.{Found}
 use Rattle.pack.specs.declared.Found.the-variants.{Whole, Wrong}
@@ -21,33 +20,12 @@ use Rattle.pack.specs.Payloads.{payloadAt, innerAt, payload, innersFrom}
 use Rattle.pack.proofs.Payloads.{payload-within}
 use Rattle.pack_layout.specs.Layout.{Element, element, elementsBytes}
 use Rattle.pack_layout.specs.Well.{WellElements}
-use Rattle.pack_layout.specs.Refused.{Has, NoInner, innerBroken, innerFixed, innerTooMany}
-use Rattle.pack_layout.proofs.Parts.{part-bytes}
-use Rattle.pack_layout.proofs.Elements.{payload-laid}
+use Rattle.pack_layout.specs.Refused.{NoInner, innerBroken, innerFixed, innerTooMany}
+use Rattle.pack_layout.proofs.Parts.{left-place}
+use Rattle.pack_layout.proofs.Elements.{has-laid}
 use Rattle.pack_layout.proofs.Accepts.{inner-turn}
+use Rattle.pack_layout.proofs.Described.{element-described}
 use Rattle.pack_layout.proofs.Broken.{element-broken}
-
--- a refusal of two steps is the first one's, or the second one's after a result of the first
-pub then-stops : {X Y : Type 0} (o : Outcome X) (f : X → Outcome Y) {why : Refusal} {p : ℕ} → andThen o f ≡ refused why p
-    → (o ≡ refused why p) ⊎ ((x : X) × (o ≡ fine x) × (f x ≡ refused why p))
-unfolding andThen
-then-stops (fine x) f h = inr (x, refl, h)
-then-stops (refused w p) f h = inl (cc)
-
--- a refusal stands before a result that is handed on
-pub then-kept : {X Y : Type 0} (o : Outcome X) (f : X → Y) {why : Refusal} {p : ℕ} → andThen o (λ x. fine (f x)) ≡ refused why p → o ≡ refused why p
-unfolding andThen
-then-kept (fine x) f h = absurd-eq (cc)
-then-kept (refused w p) f h = cc
-
--- a payload that is found is there as an element
-pub has-laid : (p : List ℕ) (at t v l : ℕ) → Bytes p → payloadAt p at ≡ Whole t v l → Has (drop at p) t (take l (drop v p)) (drop (v + l) p)
-has-laid p at t v l b e =
-    let d = payload-laid p at t v l b e in record { form = d .form; tagged = (d .low, d .high); fits = d .fits; is = d .stands }
-
--- the place of what is left
-pub left-place : (s : List ℕ) (at : ℕ) → at < length s → at ≡ length s - length (drop at s)
-left-place s at h = omega (arith, length-drop at s)
 
 -- the elements that stand from `at` of q on, before what is none
 pub record InnersStop (q : List ℕ) (base at used : ℕ) (why : Refusal) (place : ℕ) : Type 0 where
@@ -84,15 +62,16 @@ module _ (q tags : List ℕ) (base : ℕ) (b : Bytes q) where
       → InnersStop q base (v + l) (used + 1) why place → InnersStop q base at used why place
   unfolding elementsBytes
   more-inner {why} at used t v l e h r =
-      let d = payload-laid q at t v l b e in
-      let value = take l (drop v q) in
-      let bytes = element t (d .form) value in
-      let count : used + 1 + length (r .elements) ≡ used + suc (length (r .elements)) = omega arith in
+      let d = element-described q at t v l b e h in
+      let x = d .one in
+      let xs = r .elements in
+      let bytes = element (x .tag) (x .form) (x .value) in
+      let count : used + 1 + length xs ≡ used + suc (length xs) = omega arith in
       record {
-        elements = record { tag = t; form = d .form; value = value } ∷ r .elements;
+        elements = x ∷ xs;
         left = r .left;
-        well = (record { above = h; below = d .high; fits = d .fits; bytes = part-bytes q v l b }, r .well);
-        stands = d .stands ∙ ap (λ (x : List ℕ). bytes ++ x) (r .stands) ∙ sym (append-assoc bytes (elementsBytes (r .elements)) (r .left));
+        well = (d .well, r .well);
+        stands = d .stands ∙ ap (λ (y : List ℕ). bytes ++ y) (r .stands) ∙ sym (append-assoc bytes (elementsBytes xs) (r .left));
         few = omega (arith, r .few);
         wrong = subst (λ (m : ℕ). NoInner (r .left) m why) count (r .wrong);
         there = r .there;
@@ -122,6 +101,6 @@ module _ (q tags : List ℕ) (base : ℕ) (b : Bytes q) where
           (λ y. let above : 3 < t = leb-false _ _ x in
           let room : used < itemCap = leb-false _ _ y in
           let next = payload-within q at t v l e in
-          more-inner at used t v l e above
-          (ih (v + l) (used + 1) (omega arith) (omega arith)
-          (then-kept (innersFrom k q tags base (v + l) (used + 1)) (λ ys. payload tags (base + at) t (base + v) l ∷ ys) (sym (inner-turn q tags base k at used t v l i e above room) ∙ h)))))
+          let stops = then-kept (innersFrom k q tags base (v + l) (used + 1)) (λ ys. payload tags (base + at) t (base + v) l ∷ ys)
+          (sym (inner-turn q tags base k at used t v l i e above room) ∙ h) in
+          more-inner at used t v l e above (ih (v + l) (used + 1) (omega arith) (omega arith) stops)))

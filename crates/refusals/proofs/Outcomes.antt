@@ -39,6 +39,19 @@ unfolding andThen
 then-was (fine x) f h = (x, refl, h)
 then-was (refused why p) f h = absurd-eq (cc)
 
+-- a refusal of two steps is the first one's, or the second one's after a result of the first
+pub then-stops : {P X Y : Type 0} (o : Outcome X) (f : X → Outcome Y) {why : Refusal} {p : ℕ} → andThen o f ≡ refused why p → (o ≡ refused why p → P)
+    → ((x : X) → o ≡ fine x → f x ≡ refused why p → P) → P
+unfolding andThen
+then-stops (fine x) f h first second = second x refl h
+then-stops (refused w p) f h first second = first (cc)
+
+-- a refusal stands before a result that is handed on
+pub then-kept : {X Y : Type 0} (o : Outcome X) (f : X → Y) {why : Refusal} {p : ℕ} → andThen o (λ x. fine (f x)) ≡ refused why p → o ≡ refused why p
+unfolding andThen
+then-kept (fine x) f h = absurd-eq (cc)
+then-kept (refused w p) f h = cc
+
 -- ANSWERS
 
 -- the answer of an outcome that is known
