@@ -30,6 +30,10 @@ pub record Stands (p : List ℕ) (at t : ℕ) (value rest : List ℕ) : Type 0 w
   pub ends : from + length value ≤ length p
   pub next : drop (from + length value) p ≡ rest
 
+-- it begins before the end
+pub begins-within : {p : List ℕ} {at t : ℕ} {value rest : List ℕ} → Stands p at t value rest → at < length p
+begins-within r = omega (arith, r .later, r .ends)
+
 -- what is found where a tag, a length and enough bytes stand
 whole : (p : List ℕ) (at t n l v : ℕ) → tagAt p at ≡ T.Tag t n → lengthAt p n ≡ L.Length l v → l ≤ length p - v → payloadAt p at ≡ Whole t v l
 unfolding payloadAt tagFound valueFound

@@ -2,14 +2,14 @@
 -- there.
 use mathlib.Core.Path.{_≡_, refl, sym, ap, subst, _∙_}
 use mathlib.Core.List.{List, [], _∷_, _++_, append-assoc}
-use mathlib.Core.Logic.{_⊎_, inl, inr}
 use Prim.Native.Nat.{ℕ, zero, suc, _+_, _-_, _<_, _≤_}
 use native.Mathlib.Omega.{arith}
+use lib.Dec.{ltb}
 use lib.ListN.{length, take, drop, length-append, length-take, length-drop}
 use lib.Seq.{take-at}
-use borrow.Author.Tests.{lt-ltb, lt-leb, le-leb, eq-eqb, ne-eqb}
+use borrow.Author.Tests.{ltb-false, lt-ltb, lt-leb, le-leb, eq-eqb, ne-eqb}
 use Rattle.runs.specs.Digits.{digits, Bytes}
-use Rattle.runs.proofs.Cases.{lt-or-ge}
+use Rattle.runs.proofs.Cases.{split}
 use Rattle.refusals.specs.declared.Refusal.{Refusal}
 use Rattle.refusals.specs.declared.Refusal.the-variants as R
 use Rattle.refusals.specs.Outcomes.{fine, refused, andThen}
@@ -29,7 +29,7 @@ use Rattle.pack_layout.specs.Layout.{Element, Chunk, plain, group, Entry
 use Rattle.pack_layout.specs.Well.{WellElements, WellChunks, chunksCount}
 use Rattle.pack_layout.specs.Refused.{Has, NoInner, innerBroken, innerFixed, innerTooMany, NoItem, itemBroken, lateConfig, earlyCrc, itemTooMany, longCrc, wrongCrc, emptySync}
 use Rattle.pack_layout.proofs.Parts.{part-bytes, inside-back, regrouped}
-use Rattle.pack_layout.proofs.Elements.{element-back, has-back}
+use Rattle.pack_layout.proofs.Elements.{begins-within, element-back, has-back}
 use Rattle.pack_layout.proofs.Accepts.{inner-turn, inside-run, turn-plain, turn-sync}
 use Rattle.pack_layout.proofs.Items.{group-laid}
 use Rattle.pack_layout.proofs.Broken.{broken-element}
@@ -47,14 +47,15 @@ module _ (q tags : List ℕ) (base : ℕ) (b : Bytes q) where
   inner-refused k at used {why} (innerBroken n) = let r = broken-element q at why b n in (r .0, simp (lt-ltb _ _ (r .0), r .1))
   inner-refused k at used (innerFixed t v rest h low) =
       let r = has-back q at t v rest h in
-      let i : at < length q = omega (arith, r .later, r .ends) in
+      let i = begins-within r in
       (i, simp (lt-ltb _ _ i, r .found, le-leb _ _ low))
   inner-refused k at used (innerTooMany t v rest h above full) =
       let r = has-back q at t v rest h in
-      let i : at < length q = omega (arith, r .later, r .ends) in
+      let i = begins-within r in
       (i, simp (lt-ltb _ _ i, r .found, lt-leb _ _ above, le-leb _ _ full))
 
-  pub inners-refused : (xs : List Element) (z : List ℕ) (k at used : ℕ) {why : Refusal} → drop at q ≡ elementsBytes xs ++ z → used + length xs ≤ itemCap
+  -- the reader goes past well-formed payloads of a Sync to what is none
+  inners-refused : (xs : List Element) (z : List ℕ) (k at used : ℕ) {why : Refusal} → drop at q ≡ elementsBytes xs ++ z → used + length xs ≤ itemCap
       → WellElements xs → length q ≤ at + k → NoInner z (used + length xs) why → innersFrom k q tags base at used ≡ refused why (base + (length q - length z))
   unfolding elementsBytes
   inners-refused [] z k at used {why} e u w g n =
@@ -70,7 +71,7 @@ module _ (q tags : List ℕ) (base : ℕ) (b : Bytes q) where
       let v = r .from in
       let l = length (x .value) in
       let same : used + suc (length xs) ≡ used + 1 + length xs = omega arith in
-      let i : at < length q = omega (arith, r .later, r .ends) in
+      let i = begins-within r in
       spend (λ m. innersFrom m q tags base at used ≡ refused why (base + (length q - length z))) k i g
       (λ j f. inner-turn q tags base j at used (x .tag) v l i (r .found) (w .0 .above) (omega arith)
       ∙ then-refused (λ ys. fine (payload tags (base + at) (x .tag) (base + v) l ∷ ys))
@@ -80,16 +81,14 @@ module _ (s tags : List ℕ) (b : Bytes s) where
   -- a Sync of fewer than five bytes
   sync-refused : (k at used v l : ℕ) → at < length s → payloadAt s at ≡ Whole 2 v l → used < itemCap → l ≤ 4 → itemsFrom (suc k) s tags at used ≡ refused R.Sync at
   unfolding itemsFrom itemAt judged
-  sync-refused k at used v l i e u few = by (lt-or-ge l 4)
-    where
-      by : (l < 4) ⊎ (4 ≤ l) → itemsFrom (suc k) s tags at used ≡ refused R.Sync at
-      by (inl z) = simp (lt-ltb _ _ i, e, lt-leb _ _ u, lt-ltb _ _ z)
-      by (inr z) =
-          let q = take (l - 4) (drop (v + 4) s) in
-          let none : innersFrom l q tags (v + 4) 0 (used + 1) ≡ fine [] = inners-end q tags (v + 4) 0 (used + 1) l (simp length-take (omega arith)) in
-          turn-sync s tags k at used i v l e z u
-          ∙ then-refused (λ xs. andThen (itemsFrom k s tags (v + l) (used + 1 + length xs)) (with (many (syncHead s at v l (length xs)) xs)))
-          (then-fine (someInside at) none ∙ inside-none at [] refl)
+  sync-refused k at used v l i e u few =
+      split (ltb l 4)
+      (λ z. simp (lt-ltb _ _ i, e, lt-leb _ _ u, z))
+      (λ z. let q = take (l - 4) (drop (v + 4) s) in
+      let none : innersFrom l q tags (v + 4) 0 (used + 1) ≡ fine [] = inners-end q tags (v + 4) 0 (used + 1) l (simp length-take (omega arith)) in
+      turn-sync s tags k at used i v l e (ltb-false _ _ z) u
+      ∙ then-refused (λ xs. andThen (itemsFrom k s tags (v + l) (used + 1 + length xs)) (with (many (syncHead s at v l (length xs)) xs)))
+      (then-fine (someInside at) none ∙ inside-none at [] refl))
 
   -- a CRC that ends the pack and is not that of the bytes before it
   crc-refused : (k at used : ℕ) (start content v : List ℕ) (h : Has (drop at s) 3 v []) → s ≡ start ++ (content ++ drop at s) → length v ≡ 4
@@ -109,7 +108,7 @@ module _ (s tags : List ℕ) (b : Bytes s) where
       let value : take 4 (drop from s) ≡ v = ap (take 4) (r .stands) ∙ take-at v [] 4 four in
       let other = ne-eqb (bigAt s from 4) (crcOf (take from s))
       (λ good. wrong (sym value ∙ sym (big-canonical s from 4 b (omega arith)) ∙ ap (digits 256 4) (good ∙ ap crcOf front))) in
-      let i : at < length s = omega (arith, r .later, r .ends) in
+      let i = begins-within r in
       (i, simp (lt-ltb _ _ i, r .found ∙ ap (Whole 3 from) four, eq-eqb _ _ ends, other))
 
   -- no item begins at `at`
@@ -119,27 +118,27 @@ module _ (s tags : List ℕ) (b : Bytes s) where
   item-refused k at used start content {why} (itemBroken n) is = let r = broken-element s at why b n in (r .0, simp (lt-ltb _ _ (r .0), r .1))
   item-refused k at used start content (lateConfig v rest h some) is =
       let r = has-back s at 1 v rest h in
-      let i : at < length s = omega (arith, r .later, r .ends) in
+      let i = begins-within r in
       (i, simp (lt-ltb _ _ i, r .found))
   item-refused k at used start content (earlyCrc v rest h some) is =
       let r = has-back s at 3 v rest h in
-      let i : at < length s = omega (arith, r .later, r .ends) in
+      let i = begins-within r in
       let after = ap length (r .next) in
       (i, simp (lt-ltb _ _ i, r .found, ne-eqb (r .from + length v) (length s) (λ z. omega (arith, after, length-drop (r .from + length v) s))))
   item-refused k at used start content (itemTooMany t v rest h n1 n3 full) is =
       let r = has-back s at t v rest h in
-      let i : at < length s = omega (arith, r .later, r .ends) in
+      let i = begins-within r in
       (i, simp (lt-ltb _ _ i, r .found, ne-eqb t 1 n1, ne-eqb t 3 n3, le-leb _ _ full))
   item-refused k at used start content (longCrc v h other) is =
       let r = has-back s at 3 v [] h in
-      let i : at < length s = omega (arith, r .later, r .ends) in
+      let i = begins-within r in
       let after = ap length (r .next) in
       let ends : r .from + length v ≡ length s = omega (arith, after, length-drop (r .from + length v) s, r .ends) in
       (i, simp (lt-ltb _ _ i, r .found, eq-eqb _ _ ends, ne-eqb (length v) 4 other))
   item-refused k at used start content (wrongCrc v h four wrong) is = crc-refused k at used start content v h is four wrong
   item-refused k at used start content (emptySync v rest h u few) is =
       let r = has-back s at 2 v rest h in
-      let i : at < length s = omega (arith, r .later, r .ends) in
+      let i = begins-within r in
       (i, sync-refused k at used (r .from) (length v) i (r .found) u few)
 
   -- wherever what is left begins
@@ -173,7 +172,7 @@ module _ (s tags : List ℕ) (b : Bytes s) where
       let after = ap length (r .next) in
       let place : v + 4 + (length q - length z) ≡ length s - length (z ++ rest) =
       omega (arith, part .size, ap length (part .part), length-append (elementsBytes xs) z, after, length-drop (v + l) s, r .ends, length-append z rest) in
-      let i : at < length s = omega (arith, r .later, r .ends) in
+      let i = begins-within r in
       spend (λ m. itemsFrom m s tags at used ≡ refused why (length s - length (z ++ rest))) k i g
       (λ j f. turn-sync s tags j at used i v l (r .found) (omega (arith, part .size)) (omega arith)
       ∙ then-refused (λ ys. andThen (itemsFrom j s tags (v + l) (used + 1 + length ys)) (with (many (syncHead s at v l (length ys)) ys)))
@@ -194,7 +193,7 @@ module _ (s tags : List ℕ) (labels : List (List ℕ)) (ms : List Entry) (names
         (omega (arith, well .0 .above)) (well .0 .below) (well .0 .fits) in
         let v = r .from in
         let l = length (x .value) in
-        let i : at < length s = omega (arith, r .later, r .ends) in
+        let i = begins-within r in
         spend (λ m. itemsFrom m s tags at used ≡ refused why place) k i g
         (λ j f. turn-plain s tags j at used i (x .tag) v l (r .found) (well .0 .above) (omega arith)
         ∙ then-refused (with (one (payload tags at (x .tag) v l))) (items-refused cs j (v + l) (used + 1) (r .next) (omega arith) (well .1) (omega (arith, r .later))))
@@ -204,7 +203,7 @@ module _ (s tags : List ℕ) (labels : List (List ℕ)) (ms : List Entry) (names
         let r = element-back s at 2 form value rest (e ∙ append-assoc (element 2 form value) (chunksBytes cs) w) (omega arith) (omega arith) (well .0 .fits) in
         let v = r .from in
         let l = length value in
-        let i : at < length s = omega (arith, r .later, r .ends) in
+        let i = begins-within r in
         let p = group-laid s tags labels ms names at v used o d xs rest (r .stands) (omega arith) (well .0) in
         spend (λ m. itemsFrom m s tags at used ≡ refused why place) k i g
         (λ j f. turn-sync s tags j at used i v l (r .found) (p .long) (omega arith)

@@ -67,7 +67,8 @@ module _ (c : List ℕ) (place : ℕ) (b : Bytes c) where
       ∙ ap₂ (λ (u : List ℕ) (v : List (List ℕ)). clashes u v t label) (sym (tags-entries seen)) (sym (labels-entries seen)) ∙ clash in
       (omega arith, mapping-clash c place seen at (omega (arith, length-map seen entryOf)) t n e room taken)
 
-  pub mappings-refused : (ms : List Entry) (z : List ℕ) (k : ℕ) (seen : List Mapping) (at : ℕ) {why : Refusal} → drop at c ≡ entriesBytes ms ++ z
+  -- the reader goes past well-formed mappings to what is none
+  mappings-refused : (ms : List Entry) (z : List ℕ) (k : ℕ) (seen : List Mapping) (at : ℕ) {why : Refusal} → drop at c ≡ entriesBytes ms ++ z
       → WellEntries (map entryOf seen ++ ms) → NoEntry (map entryOf seen ++ ms) z why → length c ≤ at + k → mappingsFrom k c place seen at ≡ refused why place
   unfolding entriesBytes
   mappings-refused [] z k seen at {why} e w n g =

@@ -89,7 +89,7 @@ module _ (c : List ℕ) (place : ℕ) (b : Bytes c) where
 
   -- the mappings that stand before where the reader stops, in the value of the Config
   module _ (value : List ℕ) (o : ℕ) (fits : o < 65536) where
-    pub mappings-stop : (k : ℕ) (seen : List Mapping) (at : ℕ) {why : Refusal} {p : ℕ} → length c ≤ at + k → WellEntries (map entryOf seen)
+    mappings-stop : (k : ℕ) (seen : List Mapping) (at : ℕ) {why : Refusal} {p : ℕ} → length c ≤ at + k → WellEntries (map entryOf seen)
         → value ≡ digits 256 2 o ++ (entriesBytes (map entryOf seen) ++ drop at c) → mappingsFrom k c place seen at ≡ refused why p
         → NoConfig value why × (place ≡ p)
     unfolding mappingsFrom

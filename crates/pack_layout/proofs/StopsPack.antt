@@ -123,6 +123,7 @@ module _ (s : List ℕ) (b : Bytes s) (why : Refusal) (place : ℕ) where
           subst (Refused s why) (sym (g .there))
           (inSync start content w (g .rest) (g .offset) (g .duration) (g .elements) (g .left) framed laid (g .offsetFits) (g .durationFits) (g .well) (g .few) (g .has) (g .wrong))
 
+  -- a pack that is refused
   pub refused-says : reading s ≡ refused why place → Refused s why place
   unfolding reading readFrom
   refused-says h =

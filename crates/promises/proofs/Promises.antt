@@ -45,8 +45,10 @@ use Rattle.pack_text.proofs.One as listings
 use Rattle.pack_layout.specs.Layout.{Entry, noConfig, entriesLaid, Description, layout}
 use Rattle.pack_layout.specs.Well.{WellFormed}
 use Rattle.pack_layout.specs.Agrees.{Sound, Complete}
+use Rattle.pack_layout.specs.Refused.{Refused}
 use Rattle.pack_layout.proofs.Complete as complete
 use Rattle.pack_layout.proofs.Sound as sound
+use Rattle.pack_layout.proofs.Refusals as refused-packs
 use Rattle.runs.specs.Those.{those, Each}
 use Rattle.runs.proofs.Those.{those-pass}
 use Rattle.scrub_kept.specs.Sheet.{Sheet, sheetOf}
@@ -140,6 +142,12 @@ fuel-enough = fuel.fuel-enough
 -- which is the very stretch that the reading speaks of; so does every Sync with its two numbers, and every label of a mapping.
 pub payloads-stand : (s : List ℕ) → Bytes s → (r : Read) → reading s ≡ fine r → AllStand s r
 payloads-stand = starts.all-stand
+
+-- A pack is refused, for a reason and at a place, exactly when it is wrong there in that way, in the words of the layout: what stands before is laid out
+-- well, and what stands there is no element, item, Config or payload of a Sync, as `Refused` says it of each reason.
+pub refused-exactly : (s : List ℕ) → Bytes s → (why : Refusal) (place : ℕ)
+    → (reading s ≡ refused why place → Refused s why place) × (Refused s why place → reading s ≡ refused why place)
+refused-exactly = refused-packs.refused-exactly
 
 -- Two readings that meet the contract of `read` on the same bytes coincide, unused slots included; so do two answers of `check`, and the answer of
 -- `check` is the one in the reading. (Of `value`, `label` and `list` too.)
