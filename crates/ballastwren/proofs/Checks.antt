@@ -1,4 +1,4 @@
--- What a check tells C: what reading the pack tells, and whether the pack is one that can be made.
+-- What a check tells C: what reading the pack tells, whether the pack is one that can be made, and else what is wrong with it.
 use mathlib.Core.Path.{_≡_, refl, sym, ap, subst, _∙_}
 use mathlib.Core.List.{List}
 use Prim.Native.Nat.{ℕ, _+_, _*_, _<_, _≤_}
@@ -7,21 +7,25 @@ use lib.ListN.{length}
 use Rattle.runs.specs.Digits.{Bytes}
 use Rattle.runs.proofs.Cases.{absurd-eq}
 use Rattle.refusals.specs.declared.Answer.the-variants as A
+use Rattle.refusals.specs.declared.Refusal.{Refusal}
 use Rattle.refusals.specs.Outcomes.{Outcome, fine, refused, andThen, answered}
 use Rattle.refusals.specs.Lent.{within}
+use Rattle.refusals.specs.Refusals.{numberOf}
 use Rattle.refusals.proofs.Lent.{fine-within, none-within}
-use Rattle.refusals.proofs.Outcomes.{done-of, answered-fine}
+use Rattle.refusals.proofs.Outcomes.{done-of, refused-of, answered-fine, answered-refused}
 use Rattle.pack.specs.Items.{countOf}
 use Rattle.pack.specs.Reading.{Read, reading, checked}
 use Rattle.pack_layout.specs.Layout.{Description, layout}
 use Rattle.pack_layout.specs.Well.{WellFormed}
 use Rattle.pack_layout.specs.Agrees.{Sound}
+use Rattle.pack_layout.specs.Refused.{Refused}
 use Rattle.pack_layout.proofs.Complete.{reading-complete}
 use Rattle.pack_layout.proofs.Sound.{reading-sound}
+use Rattle.pack_layout.proofs.Refusals.{refused-exactly}
 use Rattle.pack_rows.specs.Rows.{rowsOf}
 use Rattle.ballastwren.specs.Told.{toldOf, BwRead}
 use Rattle.ballastwren.specs.declared.Told.{Told}
-use Rattle.ballastwren.proofs.Edge.{done-told}
+use Rattle.ballastwren.proofs.Edge.{told-apart, done-told}
 use Rattle.ballastwren.proofs.Most.{rows-long}
 
 -- AS A READING TELLS
@@ -76,4 +80,16 @@ accepted-exactly pack bytes {a} x =
       λ d well gives.
           let c = reading-complete d well in
           ap (λ (t : Told). t .number) (x ∙ ap toldOf (sym (answered-fine count (ap reading (sym gives) ∙ c .reads)))),
+    )
+
+-- EXACTLY WHERE THEY ARE WRONG
+
+pub told-exactly : (pack : List ℕ) → Bytes pack → {a : Told} → a ≡ toldOf (checked pack) → (why : Refusal) (place : ℕ)
+    → (a ≡ record { number = numberOf why; value = place } → Refused pack why place) × (Refused pack why place → a ≡ record { number = numberOf why; value = place })
+unfolding checked
+told-exactly pack bytes x why place =
+    let count : Read → ℕ = λ r. countOf (r .body .parts) in
+    let exactly = refused-exactly pack bytes why place in (
+      λ e. exactly .0 (refused-of count (reading pack) (told-apart (A.Refused why place) (checked pack) (sym e ∙ x))),
+      λ h. x ∙ ap toldOf (sym (answered-refused count (exactly .1 h) refl)),
     )

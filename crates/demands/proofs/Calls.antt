@@ -66,6 +66,7 @@ check-then-read pack bytes x y =
       second = y;
       unchanged = promises.read-unchanged pack y;
       exactly = promises.accepted-exactly pack bytes x;
+      wrong = promises.told-exactly pack bytes x;
       refused = told .0;
       room = told .1;
       noRoom = told .2;

@@ -5,12 +5,15 @@ use Prim.Native.Nat.{ℕ, _+_, _*_, _<_, _≤_}
 use lib.IntN.{pos, _-ℤ_}
 use lib.ListN.{length, take}
 use Rattle.runs.specs.Over.{over}
+use Rattle.refusals.specs.declared.Refusal.{Refusal}
+use Rattle.refusals.specs.Refusals.{numberOf}
 use Rattle.refusals.specs.Outcomes.{fine}
 use Rattle.pack.specs.Reading.{Read, reading, checked}
 use Rattle.pack.specs.Meaning.{meant}
 use Rattle.pack_layout.specs.Layout.{Description, layout}
 use Rattle.pack_layout.specs.Well.{WellFormed}
 use Rattle.pack_layout.specs.Agrees.{Sound}
+use Rattle.pack_layout.specs.Refused.{Refused}
 use Rattle.scrub_kept.specs.Sheet.{Sheet, sheetOf}
 use Rattle.scrub_kept.specs.Kept.{keptItems, kept}
 use Rattle.scrub_kept.specs.Scrubbed.{ReadsAs}
@@ -21,7 +24,13 @@ use Rattle.ballastwren.specs.Told.{toldOf, toldGainOf, BwRead, BwScrub, BwPmdRe
 
 -- THE DEMANDS
 
--- Demand 1: where a refusal is told, by any number but 0, no lent byte or number has changed
+-- Demand 1: a refusal is told, by its number and at a place, exactly where the pack is wrong there in that way and laid out well before
+abbrev pub RefusedExactly : List ℕ → Told → Type 0
+RefusedExactly pack a =
+    (why : Refusal) (place : ℕ)
+    → (a ≡ record { number = numberOf why; value = place } → Refused pack why place) × (Refused pack why place → a ≡ record { number = numberOf why; value = place })
+
+-- where a refusal is told, by any number but 0, no lent byte or number has changed
 abbrev pub Unchanged : Told → List ℕ → List ℕ → Type 0
 Unchanged a before after = (a .number ≡ 0 → ⊥) → after ≡ before
 
@@ -95,6 +104,7 @@ pub record CheckAndRead (pack run : List ℕ) (a b : Told) (rows : List ℕ) : T
   pub second : BwRead pack run b rows
   pub unchanged : Unchanged b run rows
   pub exactly : ReadExactly pack a
+  pub wrong : RefusedExactly pack a
   pub refused : (a .number ≡ 0 → ⊥) → b ≡ a
   pub room : a .number ≡ 0 → 8 * (1 + a .value) ≤ length run → b ≡ record { number = 0; value = 8 * (1 + a .value) }
   pub noRoom : a .number ≡ 0 → length run < 8 * (1 + a .value) → b ≡ record { number = 15; value = 0 }

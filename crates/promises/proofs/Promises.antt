@@ -374,6 +374,11 @@ pub accepted-exactly : (pack : List ℕ) → Bytes pack → {a : Told} → a ≡
     → (a .number ≡ 0 → (r : Read) × (reading pack ≡ fine r) × Sound pack r) × ((d : Description) → WellFormed d → layout d ≡ pack → a .number ≡ 0)
 accepted-exactly = checks.accepted-exactly
 
+-- `bw_check` tells a refusal, by its number and at a place, exactly where the pack is wrong there in that way and laid out well before.
+pub told-exactly : (pack : List ℕ) → Bytes pack → {a : Told} → a ≡ toldOf (checked pack) → (why : Refusal) (place : ℕ)
+    → (a ≡ record { number = numberOf why; value = place } → Refused pack why place) × (Refused pack why place → a ≡ record { number = numberOf why; value = place })
+told-exactly = checks.told-exactly
+
 -- `bw_gain` tells a gain muted at 0, else gain minus 51 in half decibels; a gain above 63 is FIELD, number 17.
 pub gain-levels : (gain : ℕ) {t : ToldGain} → t ≡ toldGainOf (levelOf gain)
     → (gain ≡ 0 → t ≡ record { number = 0; muted = 1; «half_db» = pos 0 })
