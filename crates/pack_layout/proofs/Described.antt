@@ -128,6 +128,7 @@ module _ (s : List ℕ) (b : Bytes s) where
       (two-bytes s (v + 2) (l - 2) b (omega arith) (omega arith)
       ∙ ap (λ (y : List ℕ). digits 256 2 (bigAt s (v + 2) 2) ++ y) (ap₂ (λ (m n : ℕ). take m (drop n s)) x (add-assoc v 2 2)))
 
+  -- a Sync that is read
   pub sync-described : {tags : List ℕ} {base used : ℕ} {ps : List Payload} (at v l : ℕ) → payloadAt s at ≡ Whole 2 v l → 4 ≤ l → 0 < length ps
       → InnersRead (take (l - 4) (drop (v + 4) s)) tags base 0 used ps → SyncDescribed s at (v + l) (length ps)
   sync-described at v l e h n inner =

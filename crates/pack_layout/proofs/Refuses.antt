@@ -35,7 +35,7 @@ use Rattle.pack_layout.proofs.Items.{group-laid}
 use Rattle.pack_layout.proofs.Broken.{broken-element}
 use Rattle.pack_layout.proofs.Wrong.{before-crc}
 
--- before the end there is a step left
+-- where something is left there is a step left
 pub spend : (P : ℕ → Type 0) {n at : ℕ} (k : ℕ) → at < n → n ≤ at + k → ((j : ℕ) → n ≤ at + suc j → P (suc j)) → P k
 spend P zero i g next = absurd (omega arith)
 spend P (suc k) i g next = next k g

@@ -49,7 +49,7 @@ pub record ItemsStop (s : List ℕ) (at used : ℕ) (why : Refusal) (place : ℕ
 none-read : {q tags : List ℕ} {base at used : ℕ} → InnersRead q tags base at used [] → length q ≤ at
 none-read (noneInside h) = h
 
--- a Sync without payloads
+-- a refusal after what was read inside a Sync says that it was nothing
 none-inside : (at : ℕ) (xs : List Payload) {why : Refusal} {place : ℕ} → someInside at xs ≡ refused why place → (xs ≡ []) × (R.Sync ≡ why) × (at ≡ place)
 unfolding someInside
 none-inside at [] h = (refl, cc, cc)
@@ -63,6 +63,7 @@ module _ (s tags : List ℕ) (b : Bytes s) where
       let same : used ≡ used + 0 = omega arith in
       record { chunks = []; left = drop at s; well = tt; stands = refl; few = omega arith; wrong = subst (λ (m : ℕ). WrongAt s (drop at s) m why place) same w }
 
+  -- no item stands there
   stop-item : {why w : Refusal} {place : ℕ} (at used : ℕ) → at < length s → used ≤ itemCap → w ≡ why → at ≡ place → NoItemAfter s (drop at s) used w
       → ItemsStop s at used why place
   stop-item {why} {w} at used i u same there n =
@@ -136,6 +137,7 @@ module _ (s tags : List ℕ) (b : Bytes s) where
         stop-here at used u (inGroup (sync-wrong s b at used v l e long w)))
         (λ ps inner none. stop-empty v l ps e room inner none)
 
+    -- inside a Sync, or after it
     stop-sync : (v l : ℕ) → payloadAt s at ≡ Whole 2 v l → 4 ≤ l → used < itemCap → ItemsStop s at used why place
     stop-sync v l e long room =
         let q = take (l - 4) (drop (v + 4) s) in
@@ -178,6 +180,7 @@ module _ (s tags : List ℕ) (b : Bytes s) where
         stop-item at used i u (cc) (cc) (λ start content is first. itemBroken (element-broken s at w b i e))
     stop-found (Whole t v l) e = stop-judged t v l (judged s used t v l) e refl (judged-of s used t v l)
 
+  -- the items from `at` on, with enough steps left
   pub items-stop : (k at used : ℕ) {why : Refusal} {place : ℕ} → length s ≤ at + k → used ≤ itemCap → itemsFrom k s tags at used ≡ refused why place
       → ItemsStop s at used why place
   unfolding itemsFrom

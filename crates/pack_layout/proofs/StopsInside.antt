@@ -77,6 +77,7 @@ module _ (q tags : List ℕ) (base : ℕ) (b : Bytes q) where
         there = r .there;
       }
 
+  -- the payloads from `at` on, with enough steps left
   pub inners-stop : (k at used : ℕ) {why : Refusal} {place : ℕ} → length q ≤ at + k → used ≤ itemCap → innersFrom k q tags base at used ≡ refused why place
       → InnersStop q base at used why place
   unfolding innersFrom innerAt

@@ -60,6 +60,7 @@ start-framed s at b r =
       };
     }
 
+-- a list of no length
 no-bytes : (l : List ℕ) → length l ≤ 0 → l ≡ []
 no-bytes [] h = refl
 no-bytes (x ∷ l) h = absurd (omega arith)

@@ -27,7 +27,7 @@ use Rattle.pack_layout.proofs.Accepts.{BadItem, late, early, unsized, o
 use Rattle.pack_layout.proofs.Described.{group-value}
 use Rattle.pack_layout.proofs.StopsInside.{InnersStop}
 
--- what is wrong where no item begins w, whatever start and content of the pack stand before; only a Config may be the first there
+-- no item begins w, whatever start and content of the pack stand before it, if a Config that begins w has something before it
 abbrev pub NoItemAfter : List ℕ → List ℕ → ℕ → Refusal → Type 0
 NoItemAfter s w used why =
     (start content : List ℕ) → s ≡ start ++ (content ++ w) → ((v rest : List ℕ) → Has w 1 v rest → 0 < length content) → NoItem start content w used why
@@ -47,7 +47,7 @@ pub record WrongSync (s w : List ℕ) (used : ℕ) (why : Refusal) (place : ℕ)
   pub wrong : NoInner left (used + 1 + length elements) why
   pub there : place ≡ length s - length (left ++ rest)
 
--- either of the two
+-- what is wrong at w: no item, or what is inside a Sync
 pub data WrongAt (s w : List ℕ) (used : ℕ) (why : Refusal) (place : ℕ) : Type 0 where
   noItem : place ≡ length s - length w → NoItemAfter s w used why → WrongAt s w used why place
   inGroup : WrongSync s w used why place → WrongAt s w used why place
