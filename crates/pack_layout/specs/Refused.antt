@@ -13,7 +13,7 @@ use Rattle.numbers.specs.Lengths.{formBytes}
 use Rattle.crc.specs.Crc.{crcOf}
 use Rattle.pack.specs.Fixed.{key, packCap, itemCap, mappingCap}
 use Rattle.pack.specs.Config.{clashes}
-use Rattle.pack_layout.specs.Layout.{Element, Chunk, Entry, ConfigLaid, element, elementsBytes, groupBytes, chunksBytes, entriesBytes, configBytes}
+use Rattle.pack_layout.specs.Layout.{Element, Chunk, Entry, ConfigLaid, element, groupBytes, chunksBytes, entriesBytes, configBytes}
 use Rattle.pack_layout.specs.Well.{FormFits, WellElements, WellChunks, WellEntries, WellConfig, chunksCount}
 
 -- a tag that can be written

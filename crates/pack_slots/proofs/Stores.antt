@@ -1,8 +1,7 @@
 -- Eight stores, one after the other.
-use mathlib.Core.Path.{_≡_, refl}
+use mathlib.Core.Path.{refl}
 use mathlib.Core.List.{List, [], _∷_}
-use Prim.Native.Nat.{ℕ, suc, _+_, _≤_}
-use native.Mathlib.Omega.{arith}
+use Prim.Native.Nat.{ℕ, _+_, _≤_}
 use lib.ListN.{length, set}
 use Rattle.runs.specs.Over.{Wrote}
 use Rattle.runs.proofs.Over.{stores-at}

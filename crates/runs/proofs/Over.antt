@@ -90,7 +90,3 @@ wrote-as {xs} {us} {ys} {zs} {at} {n} e p = record
 
 pub wrote-length : {xs us ys : List ℕ} {at n : ℕ} → at + length ys ≤ length xs → Wrote xs at ys n us → length us ≡ length xs
 wrote-length {xs} {us} {ys} {at} {n} h p = ap length (p .buffer) ∙ length-over xs at ys h
-
--- the place after the run lies in the buffer, which is as long as before
-pub wrote-inside : {xs us ys : List ℕ} {at n : ℕ} → at + length ys ≤ length xs → Wrote xs at ys n us → (n ≤ length us) × (length us ≡ length xs)
-wrote-inside {xs} {us} {ys} {at} {n} h p = let l = wrote-length h p in (omega (arith, p .next), l)
