@@ -97,7 +97,8 @@ pub record Laid (content : List ℕ) (used : ℕ) : Type 0 where
   pub few : used ≤ itemCap
   pub is : content ≡ configBytes first ++ chunksBytes chunks
 
--- s is refused, for this reason and at this place
+-- s is refused, for this reason and at this place: BIG, SHORT, KEY, LENGTH, SHORT again and TRAIL at its start, then in its Config, at an item, inside
+-- a Sync
 pub data Refused (s : List ℕ) : Refusal → ℕ → Type 0 where
   tooBig : packCap < length s → Refused s R.Big 0
   tooShort : length s < 16 → Refused s R.Short 0

@@ -70,14 +70,14 @@ module _ (s : List ℕ) (valid : Bytes s) (r : Read) (h : reading s ≡ fine r) 
   pub a : B.Accepted s r
   a = B.reading-bounds s valid r h
 
-  abbrev rows : List Slot
-  rows = slots (r .body .parts)
+  abbrev allSlots : List Slot
+  allSlots = slots (r .body .parts)
 
   abbrev pub flags : List Bool
   flags = padded mappingCap false (flagsOf sh s (placesOf (r .mappings)))
 
   abbrev pub marks : List Mark
-  marks = marksOf flags sh rows
+  marks = marksOf flags sh allSlots
 
   abbrev pub order : List ℕ
   order = keptLabels [] marks
@@ -94,11 +94,11 @@ module _ (s : List ℕ) (valid : Bytes s) (r : Read) (h : reading s ≡ fine r) 
   below : Each (PartItems (ItemBelow (length (labels s r a)))) (r .body .parts)
   below = rw (labels-count s r a) (parts-below s (length (r .mappings)) (r .body .parts) (a .parts))
 
-  rows-below : Each (λ (x : Slot). ItemBelow (length (labels s r a)) (x .item)) rows
-  rows-below = slots-each (ItemBelow (length (labels s r a))) (r .body .parts) below
+  slots-below : Each (λ (x : Slot). ItemBelow (length (labels s r a)) (x .item)) allSlots
+  slots-below = slots-each (ItemBelow (length (labels s r a))) (r .body .parts) below
 
   pub marks-low : Each (MarkBelow (length (labels s r a))) marks
-  marks-low = marks-below s (labels s r a) sh flags (flags-right s r a sh) rows rows-below
+  marks-low = marks-below s (labels s r a) sh flags (flags-right s r a sh) allSlots slots-below
 
   order-each : Each (λ (i : ℕ). i < length (labels s r a)) order
   order-each = order-below (length (labels s r a)) [] marks marks-low
@@ -110,7 +110,7 @@ module _ (s : List ℕ) (valid : Bytes s) (r : Read) (h : reading s ≡ fine r) 
       each-map low order order-each
 
   pub marks-length : length marks ≡ countOf (r .body .parts)
-  marks-length = length-map rows (λ (x : Slot). markItem flags sh (x .item)) ∙ slots-count (r .body .parts)
+  marks-length = length-map allSlots (λ (x : Slot). markItem flags sh (x .item)) ∙ slots-count (r .body .parts)
 
   pub few : length numbers + length order ≤ 64
   few = let f = marks-few [] marks in let l = marks-length in let c = a .count in omega arith
@@ -134,7 +134,7 @@ module _ (s : List ℕ) (valid : Bytes s) (r : Read) (h : reading s ≡ fine r) 
 
   module _ (nm : Names) (noted : Noted marks nm) (tags index : List ℕ) (tagged : tags ≡ padded itemCap 0 (given (nm .taken) 0 (nm .labels)))
       (placed : index ≡ byIndex (take (nm .labels) (nm .order)) tags) (ops : List ℕ) (n : ℕ) (bytes : ℕ)
-      (plans : Plans index rows (nm .marks) (record { ops = take n (opsIn ops); numbers = ops; size = bytes })) where
+      (plans : Plans index allSlots (nm .marks) (record { ops = take n (opsIn ops); numbers = ops; size = bytes })) where
     abbrev writes : List Op
     writes = take n (opsIn ops)
 
@@ -173,16 +173,16 @@ module _ (s : List ℕ) (valid : Bytes s) (r : Read) (h : reading s ≡ fine r) 
         ap (λ (x : List ℕ). getD x i 0) (placed ∙ ap₂ byIndex order-is tags-are)
         ∙ index-assigned (labels s r a) (labels-apart s r a) order numbers rest few-labels order-each i l
 
-    plan-is : planned index rows (nm .marks) ≡ planBy (newTag s (labels s r a) sh mappingsOf) rows
+    plan-is : planned index allSlots (nm .marks) ≡ planBy (newTag s (labels s r a) sh mappingsOf) allSlots
     plan-is =
-        ap (planned index rows) (noted .marks)
-        ∙ slots-planned s (labels s r a) sh flags (flags-right s r a sh) mappingsOf index index-right rows (replicate (itemCap - length marks) M.Gone) rows-below
+        ap (planned index allSlots) (noted .marks)
+        ∙ slots-planned s (labels s r a) sh flags (flags-right s r a sh) mappingsOf index index-right allSlots (replicate (itemCap - length marks) M.Gone) slots-below
 
     lie : Each (PartItems (ItemLies s (labels s r a) sh mappingsOf)) (r .body .parts)
     lie = subst (λ (ms : List Entry). Each (PartItems (ItemLies s (labels s r a) sh ms)) (r .body .parts)) entries-are lies
 
-    rows-lie : Each (SlotLies s (labels s r a) sh mappingsOf) rows
-    rows-lie = slots-each (ItemLies s (labels s r a) sh mappingsOf) (r .body .parts) lie
+    slots-lie : Each (SlotLies s (labels s r a) sh mappingsOf) allSlots
+    slots-lie = slots-each (ItemLies s (labels s r a) sh mappingsOf) (r .body .parts) lie
 
     writes-are : opsBytes s writes ≡ chunksBytes (map (asChunk mappingsOf) (keptItems sh (map (meantPart s (labels s r a)) (r .body .parts))))
     writes-are =
@@ -193,16 +193,16 @@ module _ (s : List ℕ) (valid : Bytes s) (r : Read) (h : reading s ≡ fine r) 
     size-is : bytes ≡ length (opsBytes s writes)
     size-is =
         plans .size ∙ ap (λ (p : Planned). p .total) plan-is
-        ∙ total-size s (labels s r a) sh mappingsOf rows rows-lie
+        ∙ total-size s (labels s r a) sh mappingsOf allSlots slots-lie
         ∙ ap length (sym (ap (opsBytes s) (plans .ops) ∙ ap (λ (p : Planned). opsBytes s (p .ops)) plan-is))
 
     writes-fit : Each (OpFits s) writes
     writes-fit =
-        let t : (planBy (newTag s (labels s r a) sh mappingsOf) rows) .total < 3000000 =
+        let t : (planBy (newTag s (labels s r a) sh mappingsOf) allSlots) .total < 3000000 =
         let x = plans .small in let y = plans .size ∙ ap (λ (q : Planned). q .total) plan-is in omega arith in
         rw (plans .ops)
         (subst (λ (q : Planned). Each (OpFits s) (q .ops)) (sym plan-is)
-        (ops-fit s (labels s r a) sh mappingsOf rows rows-lie t))
+        (ops-fit s (labels s r a) sh mappingsOf allSlots slots-lie t))
 
     content-is : contentAt s (r .offset) (places s r a) order tags writes ≡ contentOf what
     unfolding kept meant
