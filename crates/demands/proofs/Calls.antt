@@ -11,20 +11,25 @@ use Rattle.ballastwren.specs.Told.{toldOf, toldGainOf, BwRead, BwScrub, BwPmdRe
 use Rattle.ballastwren.specs.declared.Told.{Told}
 use Rattle.ballastwren.specs.declared.ToldGain.{ToldGain}
 use Rattle.promises.proofs.Promises as promises
-use Rattle.demands.specs.Demands.{Next, ScrubTwo, ScrubAndRead, ReadAndWrite, WriteAndRead, CheckAndRead, TellGain}
+use Rattle.demands.specs.Demands.{Unchanged, InTurn, ScrubTwo, ScrubAndRead, ReadAndWrite, WriteAndRead, CheckAndRead, TellGain}
 
--- THE SECOND CALL
-
-module _ (Call : Told → List ℕ → Type 0) {run : List ℕ} {a : Told} where
-  made : {b : Told} {end : List ℕ} → a .number ≡ 0 → Call b end → Next Call run a b end
-  made zero y = record { made = λ z. y; omitted = λ h. absurd (h zero) }
-
-  omitted : (a .number ≡ 0 → ⊥) → Next Call run a a run
-  omitted h = record { made = λ z. absurd (h z); omitted = λ g. (refl, refl) }
+-- TWO CALLS IN TURN
 
 -- the part from 0 on
 from-start : (n : ℕ) → n - 0 ≡ n
 from-start n = omega arith
+
+module _ (First : Told → List ℕ → Type 0) (Second : List ℕ → Told → List ℕ → Type 0) {before run xs : List ℕ} {a : Told} (x : First a xs) (kept : Unchanged a before xs) where
+  -- the first is refused
+  stopped : {Demand : Type 0} → (a .number ≡ 0 → ⊥) → Demand → InTurn First Second Demand before run a xs a run
+  stopped h d = record { first = x; second = λ z. absurd (h z); omitted = λ g. (refl, refl); unchanged = (kept, λ g. refl); demand = d }
+
+  -- both are made
+  both : {Demand : Type 0} {b : Told} {ys : List ℕ} → a .number ≡ 0 → Second (take (a .value - 0) xs) b ys
+      → (Second (take (a .value) xs) b ys → Unchanged b run ys) → (Second (take (a .value) xs) b ys → Demand) → InTurn First Second Demand before run a xs b ys
+  both {b = b} {ys = ys} zero part same meets =
+      let y = subst (λ (n : ℕ). Second (take n xs) b ys) (from-start (a .value)) part in
+      record { first = x; second = λ z. y; omitted = λ h. absurd (h zero); unchanged = (kept, same y); demand = meets y }
 
 -- PACKS
 
@@ -39,23 +44,15 @@ scrub-two sheet s t x y = record {
 
 module _ (sheet s : List ℕ) {before out run : List ℕ} {a : Told} (x : BwScrub sheet s before a out) where
   pub scrub-refused : (a .number ≡ 0 → ⊥) → ScrubAndRead sheet s before run a out a run
-  scrub-refused h = record {
-    first = x;
-    second = omitted (BwRead (take (a .value) out) run) h;
-    unchanged = (promises.refused-unchanged sheet s x, λ g. refl);
-    back = λ sh r named accepted zero. absurd (h zero);
-  }
+  scrub-refused h =
+      stopped (BwScrub sheet s before) (λ part. BwRead part run) x (promises.refused-unchanged sheet s x) h (λ sh r named accepted zero. absurd (h zero))
 
   pub scrub-then-read : {b : Told} {rows : List ℕ} → Bytes s → a .number ≡ 0 → BwRead (take (a .value - 0) out) run b rows
       → ScrubAndRead sheet s before run a out b rows
-  scrub-then-read {b} {rows} bytes zero part =
-      let y = subst (λ (n : ℕ). BwRead (take n out) run b rows) (from-start (a .value)) part in
-      record {
-        first = x;
-        second = made (BwRead (take (a .value) out) run) zero y;
-        unchanged = (promises.refused-unchanged sheet s x, promises.read-unchanged (take (a .value) out) y);
-        back = λ sh r named accepted done. promises.read-back sheet s sh r named accepted bytes x done;
-      }
+  scrub-then-read bytes zero part =
+      both (BwScrub sheet s before) (λ part. BwRead part run) x (promises.refused-unchanged sheet s x) zero part
+      (λ y. promises.read-unchanged (take (a .value) out) y)
+      (λ y sh r named accepted done. promises.read-back sheet s sh r named accepted bytes x done)
 
 pub check-then-read : (pack : List ℕ) {run rows : List ℕ} {a b : Told} → Bytes pack → a ≡ toldOf (checked pack) → BwRead pack run b rows
     → CheckAndRead pack run a b rows
@@ -76,43 +73,27 @@ check-then-read pack bytes x y =
 
 module _ (kind : ℕ) (value : List ℕ) {before numbers run : List ℕ} {a : Told} (x : BwPmdRead kind value before a numbers) where
   pub read-refused : (a .number ≡ 0 → ⊥) → ReadAndWrite kind value before run a numbers a run
-  read-refused h = record {
-    first = x;
-    second = omitted (BwPmdWrite kind (take (a .value) numbers) run) h;
-    unchanged = (promises.pmd-read-unchanged kind value x, λ g. refl);
-    back = λ zero room. absurd (h zero);
-  }
+  read-refused h =
+      stopped (BwPmdRead kind value before) (λ part. BwPmdWrite kind part run) x (promises.pmd-read-unchanged kind value x) h (λ zero room. absurd (h zero))
 
   pub read-then-write : {b : Told} {out : List ℕ} → Bytes value → a .number ≡ 0 → BwPmdWrite kind (take (a .value - 0) numbers) run b out
       → ReadAndWrite kind value before run a numbers b out
-  read-then-write {b} {out} bytes zero part =
-      let y = subst (λ (n : ℕ). BwPmdWrite kind (take n numbers) run b out) (from-start (a .value)) part in
-      record {
-        first = x;
-        second = made (BwPmdWrite kind (take (a .value) numbers) run) zero y;
-        unchanged = (promises.pmd-read-unchanged kind value x, promises.pmd-write-unchanged kind (take (a .value) numbers) y);
-        back = λ done. promises.bw-read-then-write kind value bytes x done y;
-      }
+  read-then-write bytes zero part =
+      both (BwPmdRead kind value before) (λ part. BwPmdWrite kind part run) x (promises.pmd-read-unchanged kind value x) zero part
+      (λ y. promises.pmd-write-unchanged kind (take (a .value) numbers) y)
+      (λ y done. promises.bw-read-then-write kind value bytes x done y)
 
 module _ (kind : ℕ) (numbers : List ℕ) {before value run : List ℕ} {a : Told} (x : BwPmdWrite kind numbers before a value) where
   pub write-refused : (a .number ≡ 0 → ⊥) → WriteAndRead kind numbers before run a value a run
-  write-refused h = record {
-    first = x;
-    second = omitted (BwPmdRead kind (take (a .value) value) run) h;
-    unchanged = (promises.pmd-write-unchanged kind numbers x, λ g. refl);
-    back = λ zero room. absurd (h zero);
-  }
+  write-refused h =
+      stopped (BwPmdWrite kind numbers before) (λ part. BwPmdRead kind part run) x (promises.pmd-write-unchanged kind numbers x) h (λ zero room. absurd (h zero))
 
   pub write-then-read : {b : Told} {fields : List ℕ} → a .number ≡ 0 → BwPmdRead kind (take (a .value - 0) value) run b fields
       → WriteAndRead kind numbers before run a value b fields
-  write-then-read {b} {fields} zero part =
-      let y = subst (λ (n : ℕ). BwPmdRead kind (take n value) run b fields) (from-start (a .value)) part in
-      record {
-        first = x;
-        second = made (BwPmdRead kind (take (a .value) value) run) zero y;
-        unchanged = (promises.pmd-write-unchanged kind numbers x, promises.pmd-read-unchanged kind (take (a .value) value) y);
-        back = λ done. promises.bw-write-then-read kind numbers x done y;
-      }
+  write-then-read zero part =
+      both (BwPmdWrite kind numbers before) (λ part. BwPmdRead kind part run) x (promises.pmd-write-unchanged kind numbers x) zero part
+      (λ y. promises.pmd-read-unchanged kind (take (a .value) value) y)
+      (λ y done. promises.bw-write-then-read kind numbers x done y)
 
 pub tell-gain : (gain : ℕ) {t : ToldGain} → t ≡ toldGainOf (levelOf gain) → TellGain gain t
 tell-gain gain x = let told = promises.gain-levels gain x in record { call = x; muted = told .0; level = told .1; refused = told .2 }

@@ -64,11 +64,6 @@ ReadBack sheet s a out =
 -- WHAT EACH FUNCTION PROMISES
 -- Each record says which calls were made, of what, and the demands that they meet.
 
--- the second of two calls: made where the first succeeds; where that is refused its answer stands for both, and the second run is as it was
-pub record Next (Call : Told → List ℕ → Type 0) (run : List ℕ) (a b : Told) (end : List ℕ) : Type 0 where
-  pub made : a .number ≡ 0 → Call b end
-  pub omitted : (a .number ≡ 0 → ⊥) → (b ≡ a) × (end ≡ run)
-
 -- scrub_two: s and t are scrubbed by one sheet
 pub record ScrubTwo (sheet s t before other : List ℕ) (a : Told) (us : List ℕ) (b : Told) (vs : List ℕ) : Type 0 where
   pub first : BwScrub sheet s before a us
@@ -76,26 +71,28 @@ pub record ScrubTwo (sheet s t before other : List ℕ) (a : Told) (us : List �
   pub unchanged : Unchanged a before us × Unchanged b other vs
   pub same : SameKept sheet s t before other a us b vs
 
+-- two calls, of which the second is handed what the first wrote. It is made where the first succeeds; where that is refused its answer stands for both,
+-- and the second run is as it was
+pub record InTurn (First : Told → List ℕ → Type 0) (Second : List ℕ → Told → List ℕ → Type 0) (Demand : Type 0) (before run : List ℕ) (a : Told) (xs : List ℕ) (b : Told) (ys : List ℕ) : Type 0 where
+  pub first : First a xs
+  pub second : a .number ≡ 0 → Second (take (a .value) xs) b ys
+  pub omitted : (a .number ≡ 0 → ⊥) → (b ≡ a) × (ys ≡ run)
+  pub unchanged : Unchanged a before xs × Unchanged b run ys
+  pub demand : Demand
+
 -- scrub_and_read: s is scrubbed, and what was written is read
-pub record ScrubAndRead (sheet s before run : List ℕ) (a : Told) (out : List ℕ) (b : Told) (rows : List ℕ) : Type 0 where
-  pub first : BwScrub sheet s before a out
-  pub second : Next (BwRead (take (a .value) out) run) run a b rows
-  pub unchanged : Unchanged a before out × Unchanged b run rows
-  pub back : ReadBack sheet s a out
+abbrev pub ScrubAndRead : List ℕ → List ℕ → List ℕ → List ℕ → Told → List ℕ → Told → List ℕ → Type 0
+ScrubAndRead sheet s before run a out b rows = InTurn (BwScrub sheet s before) (λ part. BwRead part run) (ReadBack sheet s a out) before run a out b rows
 
 -- read_and_write: the fields of a value are read and written again
-pub record ReadAndWrite (kind : ℕ) (value before run : List ℕ) (a : Told) (numbers : List ℕ) (b : Told) (out : List ℕ) : Type 0 where
-  pub first : BwPmdRead kind value before a numbers
-  pub second : Next (BwPmdWrite kind (take (a .value) numbers) run) run a b out
-  pub unchanged : Unchanged a before numbers × Unchanged b run out
-  pub back : ValueBack value run a b out
+abbrev pub ReadAndWrite : ℕ → List ℕ → List ℕ → List ℕ → Told → List ℕ → Told → List ℕ → Type 0
+ReadAndWrite kind value before run a numbers b out =
+    InTurn (BwPmdRead kind value before) (λ part. BwPmdWrite kind part run) (ValueBack value run a b out) before run a numbers b out
 
 -- write_and_read: numbers are written as a value, and that is read
-pub record WriteAndRead (kind : ℕ) (numbers before run : List ℕ) (a : Told) (value : List ℕ) (b : Told) (fields : List ℕ) : Type 0 where
-  pub first : BwPmdWrite kind numbers before a value
-  pub second : Next (BwPmdRead kind (take (a .value) value) run) run a b fields
-  pub unchanged : Unchanged a before value × Unchanged b run fields
-  pub back : FieldsBack numbers run a b fields
+abbrev pub WriteAndRead : ℕ → List ℕ → List ℕ → List ℕ → Told → List ℕ → Told → List ℕ → Type 0
+WriteAndRead kind numbers before run a value b fields =
+    InTurn (BwPmdWrite kind numbers before) (λ part. BwPmdRead kind part run) (FieldsBack numbers run a b fields) before run a value b fields
 
 -- check_and_read: a pack is checked and read. A refusal of the check is the reading's; else there are eight numbers for the pack and for each item and
 -- inner payload that was counted, and NOROOM is told exactly where the run is shorter

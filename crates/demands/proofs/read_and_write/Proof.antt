@@ -12,7 +12,9 @@ bytes : (c : tie.After-shared-slice-known) → Bytes (now (c .before .args .valu
 bytes c k = c .shared-slice-known .given k .fits
 
 returns : tie.Need-returns
-returns c = let read = c .before .before .before .before in read-refused _ _ (read .bw-pmd-read .ensures) (c .if1 .taken)
+returns c =
+    let read = c .before .before .before .before in
+    read-refused (read .before .before .before .before .before .args .kind) _ (read .bw-pmd-read .ensures) (c .if1 .taken)
 
 part-end : tie.Need-part-bw-pmd-write-end
 part-end c =

@@ -8,7 +8,9 @@ use Rattle.demands.proofs.write_and_read.Statement.{statement}
 use Rattle.demands.proofs.write_and_read.Tie as tie
 
 returns : tie.Need-returns
-returns c = let wrote = c .before .before .before .before in write-refused _ _ (wrote .bw-pmd-write .ensures) (c .if1 .taken)
+returns c =
+    let wrote = c .before .before .before .before in
+    write-refused (wrote .before .before .before .before .before .args .kind) _ (wrote .bw-pmd-write .ensures) (c .if1 .taken)
 
 part-end : tie.Need-part-bw-pmd-read-end
 part-end c =
