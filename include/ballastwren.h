@@ -56,9 +56,9 @@ extern "C" {
 
 /* The version of this header and of the archive beside it. */
 #define BW_VERSION_MAJOR 0
-#define BW_VERSION_MINOR 1
+#define BW_VERSION_MINOR 2
 #define BW_VERSION_PATCH 0
-#define BW_VERSION "0.1.0"
+#define BW_VERSION "0.2.0"
 
 /* Caps. */
 #define BW_PACK_MAX 32768       /* bytes of a pack, read or written */
@@ -80,6 +80,9 @@ extern "C" {
  * others under 1 KiB.
  */
 #define BW_STACK 40960
+
+/* The keep sheet that keeps everything: 65,535 in both counts, 8 in both offsets, and no entries. */
+static const uint8_t bw_keep_all[8] = {0xFF, 0xFF, 0x00, 0x08, 0xFF, 0xFF, 0x00, 0x08};
 
 /* Tag numbers on a keep sheet are from 4 (1 to 3 are Config, Sync and CRC) to this. */
 #define BW_TAG_MAX 268435455
@@ -197,7 +200,8 @@ bw_answer bw_read(const uint8_t *pack, size_t pack_len, uint32_t *rows, size_t r
  * A keep sheet is a header of four 16-bit numbers, most significant byte first: how many labels; 8; how many tag
  * numbers; 8 + 16 times the labels. Then the labels, 16 bytes each, and the tag numbers, 32 bits each, most
  * significant byte first. No label and no number twice, no label of Config, Sync or CRC, numbers from 4 to BW_TAG_MAX.
- * A sheet of 0 bytes keeps everything; the header alone with no entries keeps nothing.
+ * A sheet of 0 bytes keeps nothing, and so does the header alone with no entries. Everything is kept by exactly the 8
+ * bytes of bw_keep_all; 65,535 in one count only, or in both of a sheet of another length, is SHEET.
  *
  * Success counts the bytes of the new pack; all bytes of `out` after it are 0, however long `out` is.
  *

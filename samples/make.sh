@@ -189,7 +189,8 @@ keep_sheet() {
 }
 
 make_sheets() {
-    : >sheets/keep-all.sheet
+    : >sheets/empty.sheet
+    save sheets/keep-all.sheet FFFF0008FFFF0008
     text sheets/keep-all.txt '# Everything, as it stands.' 'keep all'
     keep_sheet keep-none '' '' '# Nothing: the pack offset alone is left.' 'keep none'
     keep_sheet rack "$VERSION $PRESENTATIONS $OBJECTS $POSITIONS" 70 \

@@ -40,7 +40,8 @@ const char help_scrub[] =
     "ballastwren scrub --sheet SHEET [--report] PACK OUT\n"
     "\n"
     "Writes to OUT a new pack that holds of PACK only what the keep sheet names, inside Syncs too.\n"
-    "OUT is written whole or not at all, and never over SHEET or PACK. An empty SHEET keeps all.\n"
+    "OUT is written whole or not at all, and never over SHEET or PACK. An empty SHEET keeps nothing, and a line on\n"
+    "standard error says so.\n"
     "  --sheet SHEET   the keep sheet, as 'ballastwren sheet make' writes it\n"
     "  --report        print what is in the written pack and what is proved of it, and nothing of what was\n"
     "                  dropped; OUT must then be a regular file\n";
@@ -53,12 +54,14 @@ const char help_sheet_make[] =
     "  number 70               keep payloads with this tag, 4 to 268435455, if the pack maps it to no label\n"
     "  keep all                keep everything; stands alone\n"
     "  keep none               keep nothing; stands alone\n"
-    "Blank lines and what follows a '#' are skipped. At most 32 labels and 32 numbers, none twice.\n";
+    "Blank lines and what follows a '#' are skipped. At most 32 labels and 32 numbers, none twice.\n"
+    "Where a line is bad nothing is written.\n";
 
 const char help_sheet_show[] =
     "ballastwren sheet show SHEET\n"
     "\n"
-    "Shows a keep sheet as the text that 'ballastwren sheet make' reads.\n";
+    "Shows a keep sheet as the text that 'ballastwren sheet make' reads. An empty SHEET keeps nothing, as does one\n"
+    "that was made from 'keep none'; a line on standard error tells it.\n";
 
 const char help_pmd_read[] =
     "ballastwren pmd read [--numbers | --json] KIND VALUE\n"

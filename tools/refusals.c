@@ -76,9 +76,14 @@ int refuse_word(const char *name, size_t line, const char *word, size_t length, 
     return REFUSED;
 }
 
-int trouble(const char *name, const char *sentence)
+void note(const char *name, const char *sentence)
 {
     begin(name);
     fprintf(stderr, "%s\n", sentence);
+}
+
+int trouble(const char *name, const char *sentence)
+{
+    note(name, sentence);
     return TROUBLE;
 }

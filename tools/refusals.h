@@ -1,4 +1,4 @@
-/* Refusals and troubles, one line each on standard error. */
+/* Refusals, troubles and notes, one line each on standard error. */
 #ifndef REFUSALS_H
 #define REFUSALS_H
 
@@ -19,6 +19,9 @@ int refuse_word(const char *name, size_t line, const char *word, size_t length, 
 
 /* "ballastwren: NAME: sentence". Returns TROUBLE. */
 int trouble(const char *name, const char *sentence);
+
+/* "ballastwren: NAME: sentence", of something that is no fault. */
+void note(const char *name, const char *sentence);
 
 /* The sentence that goes with a refusal's number. */
 const char *refusal_sentence(uint64_t number);

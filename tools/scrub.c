@@ -10,6 +10,7 @@
 #include "files.h"
 #include "refusals.h"
 #include "report.h"
+#include "sheets.h"
 
 enum { SHEET, PACK, INPUTS };
 
@@ -74,5 +75,8 @@ int scrub_pack(const struct options *options)
         return TROUBLE;
     if (options->report && !report(&output, &inputs[SHEET], out, (size_t)answer.value))
         return TROUBLE;
-    return keep_output(&output) ? ACCEPTED : TROUBLE;
+    if (!keep_output(&output))
+        return TROUBLE;
+    note_if_empty(&inputs[SHEET]);
+    return ACCEPTED;
 }

@@ -35,5 +35,6 @@ int show_sheet(const struct options *options)
     if (answer.number != BW_DONE)
         return refuse(sheet.name, answer, "byte");
     print_sheet(stdout, "", sheet.bytes, sheet.length);
+    note_if_empty(&sheet);
     return ACCEPTED;
 }

@@ -26,15 +26,17 @@ static uint8_t *put_number(uint8_t *at, uint32_t number, int size)
     return at;
 }
 
-/* Lays the entries out as a sheet: 0 bytes for all, the header alone for none. */
+/* Lays the entries out as a sheet: the header alone for none. */
 static size_t lay_out(const struct entries *entries, uint8_t *bytes)
 {
     const uint32_t labels = (uint32_t)entries->label_count;
     const uint32_t numbers = (uint32_t)entries->number_count;
     uint8_t *at = bytes;
 
-    if (entries->all)
-        return 0;
+    if (entries->all) {
+        memcpy(bytes, bw_keep_all, sizeof bw_keep_all);
+        return sizeof bw_keep_all;
+    }
     at = put_number(at, labels, 2);
     at = put_number(at, 8, 2);
     at = put_number(at, numbers, 2);

@@ -1,7 +1,10 @@
 #include "sheets.h"
 
+#include <string.h>
+
 #include "escape.h"
 #include "labels.h"
+#include "refusals.h"
 
 /* The archive judges sheets where it scrubs, and judges the sheet first: this pack has no items and is always good. */
 bw_answer judge_sheet(const uint8_t *bytes, size_t length)
@@ -11,6 +14,17 @@ bw_answer judge_sheet(const uint8_t *bytes, size_t length)
     uint8_t out[64];
 
     return bw_scrub(bytes, length, empty, sizeof empty, out, sizeof out);
+}
+
+void note_if_empty(const struct input *sheet)
+{
+    if (sheet->length == 0)
+        note(sheet->name, "the sheet is empty, so it keeps nothing");
+}
+
+static bool keeps_all(const uint8_t *bytes, size_t length)
+{
+    return length == sizeof bw_keep_all && memcmp(bytes, bw_keep_all, length) == 0;
 }
 
 static uint32_t number_at(const uint8_t *bytes, size_t size)
@@ -35,14 +49,14 @@ static void print_label(FILE *to, const char *indent, const uint8_t *bytes)
 
 void print_sheet(FILE *to, const char *indent, const uint8_t *bytes, size_t length)
 {
-    const size_t labels = length > 0 ? number_at(bytes, 2) : 0;
-    const size_t numbers = length > 0 ? number_at(bytes + 4, 2) : 0;
+    const bool all = keeps_all(bytes, length);
+    const bool entries = length > 0 && !all;
+    const size_t labels = entries ? number_at(bytes, 2) : 0;
+    const size_t numbers = entries ? number_at(bytes + 4, 2) : 0;
     const uint8_t *entry = bytes + 8;
 
-    if (length == 0)
-        fprintf(to, "%skeep all\n", indent);
-    else if (labels == 0 && numbers == 0)
-        fprintf(to, "%skeep none\n", indent);
+    if (labels == 0 && numbers == 0)
+        fprintf(to, "%skeep %s\n", indent, all ? "all" : "none");
     for (size_t i = 0; i < labels; i++, entry += BW_LABEL_SIZE)
         print_label(to, indent, entry);
     for (size_t i = 0; i < numbers; i++, entry += 4)

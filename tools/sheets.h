@@ -8,9 +8,13 @@
 #include <stdio.h>
 
 #include "ballastwren.h"
+#include "files.h"
 
 /* Whether the archive takes these bytes as a keep sheet. */
 bw_answer judge_sheet(const uint8_t *bytes, size_t length);
+
+/* Says of a sheet of 0 bytes that it keeps nothing: it may be one that was never made. */
+void note_if_empty(const struct input *sheet);
 
 /* The text of a good sheet, each line after `indent`. `sheet make` reads it back. */
 void print_sheet(FILE *to, const char *indent, const uint8_t *bytes, size_t length);

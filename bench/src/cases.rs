@@ -78,7 +78,8 @@ fn sheet(numbers: impl Iterator<Item = u32>) -> Vec<u8> {
 /// Each pack by three sheets: keep all, every other of the tags that its payloads have, none.
 pub fn scrubs() -> Vec<Scrub> {
     let packs = [("40 payloads of 12 bytes", payloads(40, 12)), ("60 payloads of 500 bytes", payloads(60, 500)), ("20 Syncs of two payloads", syncs(20))];
-    let sheets = [("all", Vec::new()), ("half", sheet((64..96).step_by(2))), ("none", sheet(0..0))];
+    let keep_all = vec![0xFF, 0xFF, 0, 8, 0xFF, 0xFF, 0, 8];
+    let sheets = [("all", keep_all), ("half", sheet((64..96).step_by(2))), ("none", sheet(0..0))];
     let mut scrubs = Vec::new();
     for (name, body) in packs {
         for (kept, sheet) in &sheets {

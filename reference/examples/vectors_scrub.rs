@@ -27,8 +27,8 @@ const END: usize = 16;
 /// A buffer that holds any pack.
 const AMPLE: usize = 40_000;
 
-/// The sheet that keeps all, and the one that keeps none.
-const ALL: &[u8] = &[];
+/// The sheet that keeps all, and the longer of the two that keep none.
+const ALL: &[u8] = &[0xFF, 0xFF, 0, 8, 0xFF, 0xFF, 0, 8];
 const NONE: &[u8] = &[0, 0, 0, 8, 0, 0, 0, 8];
 
 struct Case {
@@ -159,6 +159,9 @@ fn plain(cases: &mut Cases) {
     cases.fits("an empty pack", ALL, &pack(&[]));
     cases.fits("an empty pack, keep none", NONE, &pack(&[]));
     cases.fits("keep none", NONE, &one);
+    cases.fits("a sheet of 0 bytes keeps none", &[], &one);
+    cases.fits("of an empty pack too", &[], &pack(&[]));
+    cases.fits("and of a pack with an offset, labels and a Sync", &[], &mixed());
     cases.fits("keep all", ALL, &mixed());
     cases.fits("keep none of a pack with an offset", NONE, &mixed());
     cases.fits("keep one number", &keep(b"", &[5]), &mixed());
@@ -301,6 +304,13 @@ fn sheets(cases: &mut Cases) {
     cases.fits("a sheet of 32 labels and 32 numbers", &largest, &one);
     cases.refused("a sheet of one byte", &[0], &one);
     cases.refused("a sheet of seven bytes", &NONE[..7], &one);
+    cases.refused("keep all of seven bytes", &ALL[..7], &one);
+    cases.refused("keep all of nine bytes", &[ALL, &[0]].concat(), &one);
+    cases.refused("keep all and a number", &[ALL, &[0, 0, 0, 5]].concat(), &one);
+    cases.refused("keep all by the count of labels", &[&ALL[..4], &NONE[4..]].concat(), &one);
+    cases.refused("keep all by the count of numbers", &[&NONE[..4], &ALL[4..]].concat(), &one);
+    cases.refused("keep all with labels not from 8", &[&ALL[..3], &[9], &ALL[4..]].concat(), &one);
+    cases.refused("keep all with numbers not from 8", &[&ALL[..7], &[9]].concat(), &one);
     cases.refused("33 labels", &keep(&letters, &[]), &one);
     cases.refused("33 numbers", &keep(b"", &numbers), &one);
     cases.refused("256 labels more", &with(0, 1), &one);

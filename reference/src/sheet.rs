@@ -10,12 +10,15 @@ const HEADER: usize = 8;
 /// Tag numbers on a sheet (house cap).
 const MAX_NUMBERS: usize = 32;
 
+/// The one sheet that keeps all: a header with 65,535 in both counts and 8 in both offsets.
+const KEEP_ALL: [u8; HEADER] = [0xFF, 0xFF, 0, 8, 0xFF, 0xFF, 0, 8];
+
 /// A well-formed keep sheet.
 #[derive(Clone, Copy, Debug)]
 pub enum Sheet<'a> {
-    /// The sheet of 0 bytes.
+    /// The one that has 65,535 in both counts.
     All,
-    /// Any other: only what it names.
+    /// Any other: only what it names, which is nothing for the sheet of 0 bytes.
     Only(Names<'a>),
 }
 
@@ -32,8 +35,11 @@ pub struct Names<'a> {
 impl<'a> Sheet<'a> {
     /// Reads a sheet; whatever is wrong with it is SHEET at 0.
     pub fn read(sheet: &'a [u8]) -> Result<Self, Refusal> {
-        if sheet.is_empty() {
+        if *sheet == KEEP_ALL {
             return Ok(Self::All);
+        }
+        if sheet.is_empty() {
+            return Ok(Self::Only(Names::NONE));
         }
         let names = Names::read(sheet).ok_or(Reason::Sheet.at(0))?;
         Ok(Self::Only(names))
@@ -59,6 +65,13 @@ impl<'a> Sheet<'a> {
 }
 
 impl<'a> Names<'a> {
+    const NONE: Self = Self {
+        labels: &[],
+        numbers: &[],
+        filter: Filter::EMPTY,
+        one_byte: 0,
+    };
+
     /// The entries, if header, size and every entry are as they must be.
     fn read(sheet: &'a [u8]) -> Option<Self> {
         if sheet.len() < HEADER {
@@ -76,12 +89,7 @@ impl<'a> Names<'a> {
         {
             return None;
         }
-        let mut names = Self {
-            labels: &[],
-            numbers: &[],
-            filter: Filter::EMPTY,
-            one_byte: 0,
-        };
+        let mut names = Self::NONE;
         names.take_labels(sheet[HEADER..numbers_start].as_chunks().0)?;
         names.take_numbers(sheet[numbers_start..].as_chunks().0)?;
         Some(names)

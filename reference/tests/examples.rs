@@ -10,6 +10,9 @@ use reference::pack::KEY;
 use reference::{check, gain, listing, pmd_read, pmd_write, read, rows, scrub};
 use reference::{Gain, Item, Name, Reason, Refusal};
 
+/// The sheet that keeps all.
+const ALL: &[u8] = &[0xFF, 0xFF, 0, 8, 0xFF, 0xFF, 0, 8];
+
 fn sheet(labels: &[&str], numbers: &[u32]) -> Vec<u8> {
     let counts = [labels.len(), 8, numbers.len(), 8 + 16 * labels.len()];
     let counts = counts.iter().flat_map(|&n| (n as u16).to_be_bytes());
@@ -121,7 +124,7 @@ fn gains() {
 fn bench_scrub_and_listing() {
     let expected = k("09 05 01 AA 03 04");
     let mut out = [0xA5; 40];
-    assert_eq!(scrub(&[], &k("03 05 01 AA"), &mut out), Ok(26));
+    assert_eq!(scrub(ALL, &k("03 05 01 AA"), &mut out), Ok(26));
     assert_eq!(out[..22], expected);
     assert_eq!(out[22..26], crc(&expected).to_be_bytes());
     assert_eq!(out[26..], [0; 14]);
@@ -283,13 +286,13 @@ fn a_pack_of_the_greatest_size() {
     assert_eq!(full.len(), 32_768);
     assert_eq!(check(&full), Ok(1));
     // Its CRC would push it over, whatever the room.
-    scrub_refused(&[], &full, 40_000, Reason::NoRoom, 0);
+    scrub_refused(ALL, &full, 40_000, Reason::NoRoom, 0);
     let fits = pack(&payload(5, &vec![0xAA; 32_739]));
     let mut out = vec![0xA5; 32_768];
-    assert_eq!(scrub(&[], &fits, &mut out), Ok(32_768));
+    assert_eq!(scrub(ALL, &fits, &mut out), Ok(32_768));
     assert_eq!(listing(&out), "pack 0 1 good\nnumber 19 5 32739\n");
     let longer = pack(&payload(5, &vec![0xAA; 32_740]));
-    scrub_refused(&[], &longer, 40_000, Reason::NoRoom, 0);
+    scrub_refused(ALL, &longer, 40_000, Reason::NoRoom, 0);
 }
 
 #[test]
@@ -485,6 +488,14 @@ fn refusals_of_sheets() {
     let utility = "060E2B340401010D0404020300000000";
     let bad_sheets = [
         [good, vec![0]].concat(),
+        [ALL, &[0]].concat(),
+        [ALL, &hex("00000005")].concat(),
+        ALL[..7].to_vec(),
+        hex("FFFF 0008 0000 0008"),
+        hex("0000 0008 FFFF 0008"),
+        hex("FFFF 0008 FFFE 0008"),
+        hex("FFFF 0009 FFFF 0008"),
+        hex("FFFF 0008 FFFF FFF8"),
         sheet(&[LABEL_A, LABEL_A], &[]),
         sheet(&[utility], &[]),
         sheet(&[], &[3]),
@@ -506,9 +517,9 @@ fn refusals_of_sheets() {
 fn order_of_scrub_refusals() {
     let bad_sheet = [0];
     scrub_refused(&bad_sheet, &k("80"), 0, Reason::Sheet, 0);
-    scrub_refused(&[], &k("80"), 0, Reason::Length, 16);
-    scrub_refused(&[], &k("00"), 0, Reason::NoRoom, 0);
-    scrub_refused(&[], &k("00"), 22, Reason::NoRoom, 0);
+    scrub_refused(ALL, &k("80"), 0, Reason::Length, 16);
+    scrub_refused(ALL, &k("00"), 0, Reason::NoRoom, 0);
+    scrub_refused(ALL, &k("00"), 22, Reason::NoRoom, 0);
 }
 
 #[test]
@@ -524,6 +535,7 @@ fn scrub_keeps_by_name() {
     };
     let full = pack_with_crc(&items(b"secret").concat());
     scrubbed(&sheet(&[], &[]), &full, b"");
+    scrubbed(&[], &full, b"");
     // The sheet's number 5 does not keep the payload whose tag 5 is mapped.
     let kept = [payload(6, b"number 6"), sync(&[payload(6, b"inner")])];
     scrubbed(&sheet(&[], &[5, 6]), &full, &kept.concat());
@@ -568,10 +580,10 @@ fn scrub_writes_shortest_and_config_only_if_needed() {
         hex("02 83 00 00 09 80 00 FF FF 81 00 82 00 00"),
     ];
     let kept = hex("05 01 AA 02 07 80 00 FF FF 81 00 00");
-    scrubbed(&[], &pack(&items.concat()), &kept);
+    scrubbed(ALL, &pack(&items.concat()), &kept);
     let items = [config(-1, &[(10, LABEL_A)]), payload(5, &[0; 200])];
     let kept = [config(-1, &[]), payload(5, &[0; 200])];
-    scrubbed(&[], &pack(&items.concat()), &kept.concat());
+    scrubbed(ALL, &pack(&items.concat()), &kept.concat());
 }
 
 #[test]
@@ -580,7 +592,7 @@ fn scrub_takes_the_last_free_tag() {
     let numbers: Vec<u8> = (64..127).flat_map(|tag| payload(tag, b"")).collect();
     let items = [config(0, &[(5, LABEL_A)]), payload(5, b""), numbers.clone()];
     let kept = [config(0, &[(127, LABEL_A)]), payload(127, b""), numbers];
-    scrubbed(&[], &pack(&items.concat()), &kept.concat());
+    scrubbed(ALL, &pack(&items.concat()), &kept.concat());
 }
 
 #[test]

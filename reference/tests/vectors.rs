@@ -28,24 +28,24 @@ fn run(file: &str) {
 /// What this implementation answers, in the words of the vectors.
 fn answer(inputs: &[&str]) -> String {
     match *inputs {
-        ["read", "base", pack] => read_answer(&bytes(pack)),
-        ["sheet", "base", sheet] => sheet_answer(&bytes(sheet)),
-        ["scrub", "base", sheet, pack, out] => {
+        ["read", _, pack] => read_answer(&bytes(pack)),
+        ["sheet", _, sheet] => sheet_answer(&bytes(sheet)),
+        ["scrub", _, sheet, pack, out] => {
             let mut out = bytes(out);
             let result = scrub(&bytes(sheet), &bytes(pack), &mut out);
             format!("{}\t{}", outcome(result), hex(&out))
         }
-        ["pmd_read", "base", kind, value, numbers] => {
+        ["pmd_read", _, kind, value, numbers] => {
             let mut numbers = list(numbers);
             let result = pmd_read(kind.parse().unwrap(), &bytes(value), &mut numbers);
             format!("{}\t{}", outcome(result), join(&numbers))
         }
-        ["pmd_write", "base", kind, numbers, out] => {
+        ["pmd_write", _, kind, numbers, out] => {
             let mut out = bytes(out);
             let result = pmd_write(kind.parse().unwrap(), &list(numbers), &mut out);
             format!("{}\t{}", outcome(result), hex(&out))
         }
-        ["gain", "base", number] => match gain(number.parse().unwrap()) {
+        ["gain", _, number] => match gain(number.parse().unwrap()) {
             Ok(Gain::Muted) => "ok muted".to_string(),
             Ok(Gain::HalfDecibels(half)) => format!("ok {half}"),
             Err(refusal) => refused(refusal),
@@ -137,8 +137,8 @@ fn join(numbers: &[u32]) -> String {
 }
 
 #[test]
-fn base() {
-    run("base.tsv");
+fn requests() {
+    run("2026-08.tsv");
 }
 
 #[test]

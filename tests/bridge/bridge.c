@@ -37,7 +37,7 @@ struct outcome {
 
 /* Guards and arenas are multiples of this, which no processor's page is larger than. */
 #define PAGE 65536
-#define ARENA (4 * PAGE)
+#define ARENA (32 * PAGE)
 #define MARGIN 256
 #define FILLER 0xC3
 

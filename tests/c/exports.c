@@ -144,7 +144,8 @@ static bool try_refused_scrub(const void *given)
 {
     const pack_case *c = given;
     lent pack = pack_of(c->pack), out = lent_to_write(64, side);
-    bool good = is(bw_scrub(NULL, 0, pack.bytes, pack.len, out.bytes, out.len), c->number, c->value);
+    bw_answer got = bw_scrub(bw_keep_all, sizeof bw_keep_all, pack.bytes, pack.len, out.bytes, out.len);
+    bool good = is(got, c->number, c->value);
     good = good && lent_rest_is(&out, 0, LENT_FILLER) && lent_margin_is_whole(&out);
     lent_back(&pack);
     lent_back(&out);
@@ -183,9 +184,16 @@ typedef struct {
     const char *written; /* on success: the whole pack but the CRC's four bytes */
 } scrub_case;
 
+#define ALL "FFFF0008FFFF0008"
+
 static const scrub_case SCRUBS[] = {
-    {"keep all", "", "K 03 0501AA", BW_DONE, "K 09 0501AA 0304"},
+    {"keep all", ALL, "K 03 0501AA", BW_DONE, "K 09 0501AA 0304"},
+    {"keep all of a Sync", ALL, "K 0C 020A 00010002 0501AA 0601BB", BW_DONE, "K 12 020A 00010002 0501AA 0601BB 0304"},
     {"keep none", "0000 0008 0000 0008", "K 03 0501AA", BW_DONE, "K 06 0304"},
+    {"a sheet of 0 bytes keeps none", "", "K 03 0501AA", BW_DONE, "K 06 0304"},
+    {"a sheet of 0 bytes drops Syncs and labels", "", "K 24 0113 0000 50" LABEL "5001AA 020A 00010002 0501AA 5001BB",
+     BW_DONE, "K 06 0304"},
+    {"a sheet of 0 bytes keeps the pack offset", "", "K 04 0102 8000", BW_DONE, "K 0A 0102 8000 0304"},
     {"keep a number", "0000 0008 0001 0008 00000005", "K 06 0501AA 0601BB", BW_DONE, "K 09 0501AA 0304"},
     {"keep a label", "0001 0008 0000 0018" LABEL, "K 1A 0113 0000 50" LABEL "5001AA 0500", BW_DONE,
      "K 1E 0113 0000 40" LABEL "4001AA 0304"},
@@ -197,12 +205,21 @@ static const scrub_case SCRUBS[] = {
     {"keep the pack offset", "0000 0008 0000 0008", "K 04 0102 8000", BW_DONE, "K 0A 0102 8000 0304"},
     {"a sheet of 7 bytes", "0000 0008 0000 00", "K 00", BW_SHEET, NULL},
     {"a sheet with a byte too many", "0000 0008 0000 0008 00", "K 00", BW_SHEET, NULL},
+    {"keep all in the labels' count alone", "FFFF 0008 0000 0008", "K 00", BW_SHEET, NULL},
+    {"keep all in the numbers' count alone", "0000 0008 FFFF 0008", "K 00", BW_SHEET, NULL},
+    {"65,534 in a count", "FFFF 0008 FFFE 0008", "K 00", BW_SHEET, NULL},
+    {"keep all with labels from 9", "FFFF 0009 FFFF 0008", "K 00", BW_SHEET, NULL},
+    {"keep all with numbers after 65,535 labels", "FFFF 0008 FFFF FFF8", "K 00", BW_SHEET, NULL},
+    {"keep all of 7 bytes", "FFFF 0008 FFFF 00", "K 00", BW_SHEET, NULL},
+    {"keep all of 9 bytes", ALL "00", "K 00", BW_SHEET, NULL},
+    {"keep all with a number", ALL "00000005", "K 03 0501AA", BW_SHEET, NULL},
+    {"keep all with many bytes after it", ALL "{05}69000", "K 00", BW_SHEET, NULL},
     {"a sheet of 33 numbers", "0000 0008 0021 0008 {00000005}33", "K 00", BW_SHEET, NULL},
     {"a sheet with a repeat", "0000 0008 0002 0008 {00000005}2", "K 00", BW_SHEET, NULL},
     {"a sheet with number 3", "0000 0008 0001 0008 00000003", "K 00", BW_SHEET, NULL},
     {"a sheet with Sync's label", "0001 0008 0000 0018" UTILITY, "K 00", BW_SHEET, NULL},
     {"a bad sheet before a bad pack", "00", "00", BW_SHEET, NULL},
-    {"a full pack, whose CRC would be too much", "", "K 82 7FED 05 82 7FE9 {AA}32745", BW_NOROOM, NULL},
+    {"a full pack, whose CRC would be too much", ALL, "K 82 7FED 05 82 7FE9 {AA}32745", BW_NOROOM, NULL},
 };
 
 static bool scrub_into(const scrub_case *c, size_t room, uint64_t number, size_t size)
@@ -441,10 +458,13 @@ static void gains(void)
 
 static void names(void)
 {
+    size_t all_len;
     bool good = strcmp(bw_refusal_name(BW_DONE), "DONE") == 0 && strcmp(bw_refusal_name(BW_BIG), "BIG") == 0 &&
                 strcmp(bw_refusal_name(BW_SHEET), "SHEET") == 0 && strcmp(bw_refusal_name(BW_KIND), "KIND") == 0 &&
                 strcmp(bw_refusal_name(20), "UNKNOWN") == 0 && strcmp(bw_refusal_name(UINT64_MAX), "UNKNOWN") == 0;
     report(good, "bw_refusal_name", "first, last and beyond");
+    const uint8_t *all = bytes_of(ALL, &all_len);
+    report(all_len == sizeof bw_keep_all && memcmp(all, bw_keep_all, all_len) == 0, "bw_keep_all", "its bytes");
     report(sizeof(bw_answer) == 16 && sizeof(bw_gain_answer) == 12, "answers", "their sizes");
     for (int number = BW_DONE; number <= BW_KIND; number++)
         report(met[number], "met", bw_refusal_name((uint64_t)number));

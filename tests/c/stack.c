@@ -82,7 +82,7 @@ static void load_full_pack(size_t size)
     pack[17] = (uint8_t)((pack_len - 19) >> 8);
     pack[18] = (uint8_t)(pack_len - 19);
     /* A scrub under the sheet that keeps all writes the same pack and its CRC. */
-    bw_answer sent = bw_scrub(NULL, 0, pack, pack_len, out, sizeof out);
+    bw_answer sent = bw_scrub(bw_keep_all, sizeof bw_keep_all, pack, pack_len, out, sizeof out);
     if (sent.number != BW_DONE) {
         printf("FAILED  the full pack is refused: %s\n", bw_refusal_name(sent.number));
         exit(1);
@@ -148,7 +148,7 @@ int main(void)
     tell("bw_check", most_of_packs(check));
     tell("bw_read", most_of_packs(read_rows));
     tell("bw_scrub", most_of_packs(scrub));
-    sheet_len = 0;
+    load("FFFF 0008 FFFF 0008", sheet, &sheet_len);
     tell("bw_scrub", most_of_packs(scrub));
     pmd();
     tell("bw_gain", most(gain));

@@ -2,6 +2,7 @@
 # scrub and its report.
 
 RACK=$SAMPLES/sheets/rack.sheet ALL=$SAMPLES/sheets/keep-all.sheet NONE=$SAMPLES/sheets/keep-none.sheet
+EMPTY=$SAMPLES/sheets/empty.sheet
 W=$T/scrub
 mkdir "$W"
 
@@ -25,6 +26,11 @@ label 144 060E2B340401010D0404020D00000000 12' '' "$BW" list "$T/clean"
 check 'scrub: again gives the same pack' scrubbed "$T/clean" "$RACK" "$T/clean"
 "$BW" scrub --sheet "$NONE" "$SAMPLES/packs/incident.pack" "$T/none"
 check 'scrub: nothing kept' gives 0 'pack -48 0 good' '' "$BW" list "$T/none"
+check 'scrub: an empty sheet keeps nothing, and says so' gives 0 '' "ballastwren: $EMPTY: the sheet is empty, so it keeps nothing" \
+    "$BW" scrub --sheet "$EMPTY" "$SAMPLES/packs/incident.pack" "$T/emptied"
+check 'scrub: by an empty sheet as by keep none' cmp "$T/none" "$T/emptied"
+check 'scrub: an empty sheet on standard input' writes "$T/none" 0 'ballastwren: standard input: the sheet is empty, so it keeps nothing' \
+    from /dev/null "$BW" scrub --sheet - "$SAMPLES/packs/incident.pack" -
 check 'scrub: to standard output' writes "$T/clean" 0 '' "$BW" scrub --sheet "$RACK" "$SAMPLES/packs/incident.pack" -
 check 'scrub: the pack on standard input' writes "$T/clean" 0 '' \
     from "$SAMPLES/packs/incident.pack" "$BW" scrub --sheet "$RACK" - -
@@ -43,6 +49,7 @@ check 'scrub: SHEET' refused_scrub "*refused.sheet: refused: SHEET (14) at byte 
 check 'scrub: SHEET comes before the pack' refused_scrub '*SHEET (14)*' --sheet "$SAMPLES/sheets/rack.txt" "$SAMPLES/packs/refused-crc.pack"
 check 'scrub: a sheet without end' refused_scrub '*SHEET (14)*' --sheet /dev/zero "$SAMPLES/packs/sync.pack"
 check "scrub: the pack's own refusal" refused_scrub '*refused-crc.pack: refused: CRC (13) at byte 20: *' --sheet "$ALL" "$SAMPLES/packs/refused-crc.pack"
+check 'scrub: a bad pack under an empty sheet is refused in one line' refused_scrub '*CRC (13)*' --sheet "$EMPTY" "$SAMPLES/packs/refused-crc.pack"
 check 'scrub: no such sheet' gives 2 '' '*absent: No such file*' "$BW" scrub --sheet "$T/absent" "$SAMPLES/packs/sync.pack" "$T/x"
 
 # The report.
@@ -75,7 +82,11 @@ What is proved, of ballastwren $VERSION
 check 'report: its CRC is the written one' gives 0 '9122acbe' '' sh -c "tail -c 4 '$T/a.pack' | od -An -v -tx1 | tr -d ' \n'"
 check 'report: nothing kept' gives 0 '*Items kept*  none*' '' \
     "$BW" scrub --report --sheet "$NONE" "$SAMPLES/packs/incident.pack" "$T/none"
-check 'report: all kept' gives 0 '*keep all*' '' "$BW" scrub --report --sheet "$ALL" "$SAMPLES/packs/sync.pack" "$T/all"
+check 'report: nothing kept by an empty sheet' gives 0 $'*Keep sheet\n  keep none\n*Items kept*  none*' '*empty.sheet: the sheet is empty*' \
+    "$BW" scrub --report --sheet "$EMPTY" "$SAMPLES/packs/incident.pack" "$T/none"
+check 'report: keep none in words' gives 0 $'*Keep sheet\n  keep none\n\nWritten pack*' '' \
+    "$BW" scrub --report --sheet "$NONE" "$SAMPLES/packs/incident.pack" "$T/none"
+check 'report: all kept' gives 0 $'*Keep sheet\n  keep all\n\nWritten pack*' '' "$BW" scrub --report --sheet "$ALL" "$SAMPLES/packs/sync.pack" "$T/all"
 check 'report: OUT must be a regular file' gives 2 '' '*null: a report is made by reading OUT back*' \
     "$BW" scrub --report --sheet "$ALL" "$SAMPLES/packs/sync.pack" /dev/null
 

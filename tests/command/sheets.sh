@@ -14,6 +14,9 @@ check 'sheet show: labels, titles, numbers' gives 0 $'label 060E2B340401010D0404
     "$BW" sheet show "$SAMPLES/sheets/rack.sheet"
 check 'sheet show: keep all' gives 0 'keep all' '' "$BW" sheet show "$SAMPLES/sheets/keep-all.sheet"
 check 'sheet show: keep none' gives 0 'keep none' '' "$BW" sheet show "$SAMPLES/sheets/keep-none.sheet"
+check 'sheet show: an empty sheet' gives 0 'keep none' "ballastwren: $SAMPLES/sheets/empty.sheet: the sheet is empty, so it keeps nothing" \
+    "$BW" sheet show "$SAMPLES/sheets/empty.sheet"
+check 'sheet show: an empty standard input' gives 0 'keep none' 'ballastwren: standard input: the sheet is empty*' from /dev/null "$BW" sheet show -
 check 'sheet show: SHEET' gives 1 '' '*refused.sheet: refused: SHEET (14) at byte 0: *' \
     "$BW" sheet show "$SAMPLES/sheets/refused.sheet"
 check 'sheet show: a text is not a sheet' gives 1 '' '*SHEET (14)*sheet make*' "$BW" sheet show "$SAMPLES/sheets/rack.txt"
@@ -24,6 +27,8 @@ said() {
     printf '%b' "$1" >"$T/text" && bytes "${@:2}" >"$T/want" && writes "$T/want" 0 '' "$BW" sheet make "$T/text"
 }
 L=060E2B340401010D0404020400000000
+check 'sheet make: keep all' said 'keep all\n' FFFF 0008 FFFF 0008
+check 'sheet make: keep none' said 'keep none\n' 0000 0008 0000 0008
 check 'sheet make: small hex digits' said "label ${L,,}" 0001 0008 0000 0018 $L
 check 'sheet make: full stops between bytes' said 'label 06.0E.2B.34.04.01.01.0D.04.04.02.04.00.00.00.00\n' 0001 0008 0000 0018 $L
 check 'sheet make: numbers among labels' said "number 4\nlabel $L\nnumber 268435455\n" 0001 0008 0002 0018 $L 00000004 0FFFFFFF
@@ -68,3 +73,30 @@ check 'sheet make: is 648 bytes' gives 0 648 '' stat -c %s "$T/made"
 check 'sheet show: 32 of each' gives 0 "label*number 101" '' "$BW" sheet show "$T/made"
 check 'sheet make: a text without end is cut off' gives 1 '' '*SHEET (14)*at most 262144 bytes' "$BW" sheet make /dev/zero
 check 'sheet make: no such text' gives 2 '' '*: No such file or directory' "$BW" sheet make "$T/absent"
+
+# no_sheet HEX...: not a sheet, for sheet show and for scrub, which writes nothing.
+no_sheet() {
+    bytes "$@" >"$T/sheet" && rm -f "$T/made"
+    gives 1 '' '*sheet: refused: SHEET (14) at byte 0: *' "$BW" sheet show "$T/sheet" &&
+        gives 1 '' '*sheet: refused: SHEET (14) at byte 0: *' "$BW" scrub --sheet "$T/sheet" "$SAMPLES/packs/number.pack" "$T/made" && [[ ! -e $T/made ]]
+}
+ALL=FFFF0008FFFF0008
+check 'keep all: by the count of labels alone' no_sheet FFFF 0008 0000 0008
+check 'keep all: by the count of numbers alone' no_sheet 0000 0008 FFFF 0008
+check 'keep all: of 7 bytes' no_sheet ${ALL%08}
+check 'keep all: of 9 bytes' no_sheet $ALL 00
+check 'keep all: with an entry' no_sheet $ALL 00000005
+check 'keep all: as long as the longest sheet' no_sheet $ALL "$(printf '05%.0s' {1..640})"
+check 'keep all: and longer' no_sheet $ALL "$(printf '05%.0s' {1..2000})"
+check 'keep all: with another offset' no_sheet FFFF 0008 FFFF FFF8
+
+# A mistyped text into a redirection leaves a sheet of 0 bytes, by which nothing is kept.
+redirected() {
+    printf 'label %s\nkeeep all\n' $L >"$T/text"
+    "$BW" sheet make "$T/text" >"$T/sheet" 2>"$T/err"
+    [[ $? -eq 1 && $(<"$T/err") == *'SHEET (14) at line 2: '* && -e $T/sheet && ! -s $T/sheet ]] &&
+        gives 0 '' "ballastwren: $T/sheet: the sheet is empty, so it keeps nothing" \
+            "$BW" scrub --sheet "$T/sheet" "$SAMPLES/packs/incident.pack" "$T/made" &&
+        gives 0 'pack -48 0 good' '' "$BW" list "$T/made"
+}
+check 'sheet make: a bad line and a redirection, then a scrub' redirected

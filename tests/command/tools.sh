@@ -43,7 +43,7 @@ run_part() {
 }
 
 # gives STATUS OUT ERR COMMAND...: the exit status, and what comes on standard output and standard error, each as a
-# pattern. Standard error has one line where the status is not 0, and neither has a byte that steers a terminal.
+# pattern. Standard error has one line where the status is not 0 or ERR wants one, and no byte that steers a terminal.
 gives() {
     local want_status=$1 want_out=$2 want_err=$3 status out err good=1
     shift 3
@@ -53,7 +53,7 @@ gives() {
     [[ $status -eq $want_status ]] || good=0
     # shellcheck disable=SC2053  # patterns
     [[ $out == $want_out && $err == $want_err ]] || good=0
-    [[ $(wc -l <"$T/err") -eq $((want_status > 0)) ]] || good=0
+    [[ $(wc -l <"$T/err") -eq $((want_status > 0 || ${#want_err} > 0)) ]] || good=0
     grep -q $'[\001-\010\013-\037\177]' "$T/err" && good=0
     [[ $good -eq 1 ]] && return
     printf 'wanted %s\n  out: %s\n  err: %s\ngot %s\n  out: %s\n  err: %s\n' "$want_status" "$want_out" "$want_err" \

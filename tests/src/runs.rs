@@ -38,6 +38,11 @@ impl Tally {
         self.0[number as usize] += 1;
     }
 
+    /// How often this number was answered.
+    pub fn of(&self, number: usize) -> usize {
+        self.0[number]
+    }
+
     fn line(&self, function: &str) -> String {
         let counts: String = self
             .0

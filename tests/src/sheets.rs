@@ -3,6 +3,9 @@
 use crate::packs::{any_label, any_tag, listed_label, Label, Said, TAG_MAX};
 use crate::random::Random;
 
+/// The sheet that keeps all: 65,535 in both counts, 8 in both offsets.
+pub const KEEP_ALL: [u8; 8] = [0xFF, 0xFF, 0, 8, 0xFF, 0xFF, 0, 8];
+
 /// What a sheet names; no names at all still is a sheet, which keeps nothing.
 #[derive(Clone, Debug, Default)]
 pub struct Sheet {
@@ -55,12 +58,12 @@ pub fn any_sheet(random: &mut Random, said: &Said) -> Sheet {
     sheet
 }
 
-/// The bytes of a good sheet, the one of 0 bytes included, which keeps all.
+/// The bytes of a good sheet, the one that keeps all and the one of 0 bytes, which keeps none, included.
 pub fn any_sheet_bytes(random: &mut Random, said: &Said) -> Vec<u8> {
-    if random.percent(20) {
-        vec![]
-    } else {
-        any_sheet(random, said).bytes()
+    match random.below(20) {
+        0..=2 => KEEP_ALL.to_vec(),
+        3 => vec![],
+        _ => any_sheet(random, said).bytes(),
     }
 }
 
@@ -77,7 +80,7 @@ pub fn bad_sheet(random: &mut Random, said: &Said) -> Vec<u8> {
         6 if !sheet.numbers.is_empty() => sheet.numbers.push(random.pick(&sheet.numbers)),
         _ => {}
     }
-    let mut bytes = sheet.bytes();
+    let mut bytes = if random.percent(10) { KEEP_ALL.to_vec() } else { sheet.bytes() };
     if random.percent(50) {
         hurt(random, &mut bytes);
     }
@@ -85,12 +88,13 @@ pub fn bad_sheet(random: &mut Random, said: &Said) -> Vec<u8> {
 }
 
 fn hurt(random: &mut Random, bytes: &mut Vec<u8>) {
-    match random.below(6) {
+    match random.below(7) {
         0 => bytes.truncate(random.below(bytes.len())),
         1 => bytes.push(0),
         2 => bytes.extend([0, 0, 0, 200]),
         3 => bytes[random.below(8)] ^= 1 << random.below(8),
         4 => bytes[5] = bytes[5].wrapping_add(1),
+        5 => bytes[random.pick(&[0, 4])..][..2].copy_from_slice(&[0xFF, 0xFF]),
         _ => {
             let at = random.below(bytes.len());
             bytes[at] = random.byte();

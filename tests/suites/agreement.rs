@@ -1,13 +1,13 @@
 //! The archive and the reference give the same answer, the same place and the same whole buffer on generated inputs,
 //! and every refusal that a function can give is met.
 
-use ballastwren_tests::archive::{Answer, Call};
+use ballastwren_tests::archive::{Answer, Archive, Call};
 use ballastwren_tests::damage::damaged;
 use ballastwren_tests::oracle;
 use ballastwren_tests::packs::{any_pack, stretch, Said, KEY, PACK_MAX};
 use ballastwren_tests::random::Random;
 use ballastwren_tests::runs::{compare, inputs, require, seed};
-use ballastwren_tests::sheets::{any_sheet_bytes, bad_sheet};
+use ballastwren_tests::sheets::{any_sheet_bytes, bad_sheet, KEEP_ALL};
 use ballastwren_tests::values::{any_kind, any_list, any_value};
 
 const INPUTS: usize = 200_000;
@@ -66,7 +66,7 @@ fn scrub_call(random: &mut Random) -> Call {
     let (said, pack) = if random.percent(70) { any_good(random) } else { good_or_damaged(random) };
     let full = pack.len() > PACK_MAX - 50;
     let sheet = match random.below(100) {
-        _ if full && random.percent(70) => vec![],
+        _ if full && random.percent(70) => KEEP_ALL.to_vec(),
         0..=84 => any_sheet_bytes(random, &said),
         _ => bad_sheet(random, &said),
     };
@@ -155,4 +155,61 @@ fn small_values_agree() {
         Call::PmdRead { kind: 1 + (index >> 16) as u32, value, numbers: vec![77; 4] }
     };
     compare(0, 6 << 16, small);
+}
+
+/// A scrub of a pack of one payload, number 5, by these bytes of a sheet.
+fn scrub_of_one(sheet: Vec<u8>) -> Call {
+    Call::Scrub { sheet, pack: [&KEY[..], &[3, 5, 1, 0xAA]].concat(), out: vec![77; 26] }
+}
+
+/// What that scrub comes to if it keeps the payload, keeps nothing, or is refused: the answer, the pack's length for success.
+const KEPT: Answer = Answer { number: 0, value: 26 };
+const DROPPED: Answer = Answer { number: 0, value: 23 };
+const SHEET: Answer = Answer { number: 14, value: 0 };
+
+/// The header that keeps none, and the one that keeps all.
+const ALONE: [[u16; 4]; 2] = [[0, 8, 0, 8], [0xFFFF, 8, 0xFFFF, 8]];
+
+fn header(numbers: [u16; 4]) -> Vec<u8> {
+    numbers.iter().flat_map(|number| number.to_be_bytes()).collect()
+}
+
+/// Every header of 8 bytes that differs from one of the two in one of its numbers at most: only those two are sheets.
+#[test]
+fn headers_around_all_and_none_agree() {
+    let around = |_: &mut Random, index: usize| {
+        let mut numbers = ALONE[index >> 18];
+        numbers[index >> 16 & 3] = index as u16;
+        scrub_of_one(header(numbers))
+    };
+    let tally = compare(0, 8 << 16, around);
+    assert_eq!((tally.of(0), tally.of(14)), (8, (8 << 16) - 8));
+}
+
+/// Sheets of a few bytes, and of as many as 65,535 entries take: 0 bytes keep none, and no sheet but one keeps all.
+#[test]
+fn one_sheet_keeps_all() {
+    let mut sheets = vec![(vec![], DROPPED), (header(ALONE[0]), DROPPED), (header(ALONE[1]), KEPT)];
+    for alone in ALONE {
+        let whole = header(alone);
+        sheets.extend((1..8).map(|size| (whole[..size].to_vec(), SHEET)));
+        sheets.extend((1..40).map(|more| ([&whole[..], &vec![5; more]].concat(), SHEET)));
+        let flipped = |one: usize, two: usize| {
+            let mut bytes = whole.clone();
+            bytes[one / 8] ^= 1 << (one % 8);
+            bytes[two / 8] ^= if one == two { 0 } else { 1 << (two % 8) };
+            (bytes, SHEET)
+        };
+        sheets.extend((0..64).flat_map(|one| (one..64).map(move |two| (one, two))).map(|(one, two)| flipped(one, two)));
+    }
+    for (labels, numbers) in [(65_535, 0), (0, 65_535), (65_535, 65_535)] {
+        let counts = header([labels as u16, 8, numbers as u16, (8 + 16 * labels) as u16]);
+        sheets.push(([counts, vec![9; 16 * labels + 4 * numbers]].concat(), SHEET));
+    }
+    let calls: Vec<Call> = sheets.iter().map(|(sheet, _)| scrub_of_one(sheet.clone())).collect();
+    compare(0, calls.len(), |_, index| calls[index].clone());
+    let mut archive = Archive::start();
+    for ((sheet, expected), call) in sheets.iter().zip(&calls) {
+        assert_eq!(archive.outcome(call).answer, *expected, "sheet {sheet:02X?}");
+    }
 }

@@ -8,7 +8,7 @@ use ballastwren_tests::packs::{any_label, any_said, any_tag, any_u16, dressed, I
 use ballastwren_tests::random::Random;
 use ballastwren_tests::runs::{inputs, seed};
 use ballastwren_tests::scrubbed::{said_by, scrubbed};
-use ballastwren_tests::sheets::Sheet;
+use ballastwren_tests::sheets::{Sheet, KEEP_ALL};
 
 const PAIRS: usize = 40_000;
 const TAINTED: usize = 20_000;
@@ -82,10 +82,10 @@ fn scrub(random: &mut Random, sheet: &Sheet, said: &Said, room: usize) -> Call {
     Call::Scrub { sheet: sheet.bytes(), pack: dressed(random, said).bytes(), out: random.bytes(room) }
 }
 
-/// A sheet that keeps all does so for the sheet of 0 bytes too.
+/// The call with the sheet that keeps all.
 fn keep_all(call: &mut Call) {
     if let Call::Scrub { sheet, .. } = call {
-        sheet.clear();
+        *sheet = KEEP_ALL.to_vec();
     }
 }
 

@@ -51,7 +51,8 @@ use Rattle.pack_layout.proofs.Sound as sound
 use Rattle.pack_layout.proofs.Refusals as refused-packs
 use Rattle.runs.specs.Those.{those, Each}
 use Rattle.runs.proofs.Those.{those-pass}
-use Rattle.scrub_kept.specs.Sheet.{Sheet, sheetOf}
+use Rattle.numbers.specs.Big.{bigAt}
+use Rattle.scrub_kept.specs.Sheet.{Sheet, everything, these, allSheet, sheetOf}
 use Rattle.scrub_kept.specs.Kept.{keptItems, kept}
 use Rattle.scrub_kept.specs.Placed.{Placed, grouped, placed, onSheet, HasPayload, namedBy}
 use Rattle.scrub_kept.specs.Written.{numbersIn, labelsIn, described, written}
@@ -60,6 +61,7 @@ use Rattle.scrub_kept.proofs.Labels as labels
 use Rattle.scrub_kept.proofs.Mappings as mappings
 use Rattle.scrub_kept.proofs.Described.{described-entries, described-bare}
 use Rattle.scrub_kept.proofs.Keeping as keeping
+use Rattle.scrub_kept.proofs.Sheets as sheets
 use Rattle.scrub_kept.proofs.Scrubbing as scrubbing
 use Rattle.scrub_kept.proofs.ReadBack as back
 use Rattle.scrub.specs.Scrubs.{Scrubs}
@@ -237,6 +239,29 @@ module _ (sheet s : List ℕ) (sh : Sheet) (r : Read) (named : sheetOf sheet ≡
       let w = written (kept sh (meant s r)) in
       let e = scrubbing.scrub-is sheet s sh r (length before) named accepted in
       (λ h g. x .told ∙ ap told (e ∙ scrubbing.room-enough (length before) w h g), λ h. x .told ∙ ap told (e ∙ scrubbing.room-short (length before) w h))
+
+module _ (s : List ℕ) (r : Read) (bytes : Bytes s) (accepted : reading s ≡ fine r) where
+  -- A sheet of 0 bytes keeps nothing: the pack that is written says the pack offset of the pack that was scrubbed, and no item.
+  pub empty-keeps-none : {before after : List ℕ} {a : Told} → BwScrub [] s before a after → a .number ≡ 0
+      → ReadsAs (take (a .value) after) (record { offset = (meant s r) .offset; items = [] })
+  empty-keeps-none {before} {after} {a} x done =
+      subst (ReadsAs (take (a .value) after)) (sheets.kept-none (meant s r)) (read-back [] s (these [] []) r sheets.empty-none accepted bytes x done)
+
+  -- The sheet of the 8 bytes FF FF 00 08 FF FF 00 08 keeps all: the pack that is written says what the pack that was scrubbed says.
+  pub all-keeps-all : {before after : List ℕ} {a : Told} → BwScrub allSheet s before a after → a .number ≡ 0 → ReadsAs (take (a .value) after) (meant s r)
+  all-keeps-all {before} {after} {a} x done =
+      subst (ReadsAs (take (a .value) after)) (sheets.kept-all s r bytes accepted) (read-back allSheet s everything r sheets.all-is accepted bytes x done)
+
+-- No other sheet keeps all.
+pub all-exactly : (sheet : List ℕ) → Bytes sheet → (sheetOf sheet ≡ fine everything → sheet ≡ allSheet) × (sheet ≡ allSheet → sheetOf sheet ≡ fine everything)
+all-exactly = sheets.all-exactly
+
+-- 65,535 in one count or in both of any other sheet, whatever its length, is SHEET, number 14 and place 0: it never counts entries.
+pub all-or-refused : (sheet s : List ℕ) {before after : List ℕ} {a : Told} → Bytes sheet → (bigAt sheet 0 2 ≡ 65535) ⊎ (bigAt sheet 4 2 ≡ 65535)
+    → (sheet ≡ allSheet → ⊥) → BwScrub sheet s before a after → a ≡ record { number = 14; value = 0 }
+unfolding answered
+all-or-refused sheet s {before} bytes counts other x =
+    x .told ∙ ap told (scrubbing.sheet-refused sheet s (length before) R.Sheet 0 (sheets.all-or-refused sheet bytes counts other))
 
 -- A malformed sheet is refused first, as SHEET with place 0, whatever the pack and the buffer; then the pack is, as reading refuses it.
 pub refused-in-order : (sheet s : List ℕ) (room : ℕ) (why : Refusal) (place : ℕ)

@@ -44,11 +44,13 @@ use Rattle.scrub.specs.Scrubs.{Scrubs}
 
 refused-outcome : (s : List ℕ) (x : Asked) → isRefused x ≡ true → outcome s x ≡ refused R.Sheet 0
 refused-outcome s K.All e = absurd-eq (cc)
+refused-outcome s K.Nothing e = absurd-eq (cc)
 refused-outcome s (K.These l t) e = absurd-eq (cc)
 refused-outcome s K.Refused e = refl
 
 fine-outcome : (s : List ℕ) (x : Asked) → isRefused x ≡ false → outcome s x ≡ fine (asks s x)
 fine-outcome s K.All e = refl
+fine-outcome s K.Nothing e = refl
 fine-outcome s (K.These l t) e = refl
 fine-outcome s K.Refused e = absurd-eq (cc)
 

@@ -24,6 +24,7 @@ use Rattle.scrub.specs.declared.Found.{Found}
 -- a sheet that is malformed
 abbrev pub isRefused : Asked → Bool
 isRefused K.All = false
+isRefused K.Nothing = false
 isRefused (K.These l t) = false
 isRefused K.Refused = true
 

@@ -29,6 +29,7 @@ fn refused(asked: Asked) -> bool
 {
     match asked {
         Asked::All => false,
+        Asked::Nothing => false,
         Asked::These {
             labels: _,
             numbers: _,

@@ -5,7 +5,7 @@ use mathlib.Core.List.{List, _++_}
 use mathlib.Core.Logic.{_⊎_, inl, inr}
 use Prim.Native.Nat.{ℕ, _-_, _<_, _≤_}
 use native.Mathlib.Omega.{arith}
-use lib.Dec.{leb, eqb}
+use lib.Dec.{leb}
 use lib.ListN.{length, take, drop, replicate}
 use lib.Seq.{take-at, drop-at}
 use borrow.Author.Tests.{leb-true, le-leb, lt-leb}
@@ -18,26 +18,18 @@ use Rattle.pack.specs.Fixed.{packCap}
 use Rattle.pack.specs.Said.{SaidItem}
 use Rattle.pack.specs.Reading.{Read, reading}
 use Rattle.pack.specs.Meaning.{meant}
-use Rattle.scrub_kept.specs.Sheet.{Sheet, everything, these, labelsGood, numbersGood, headerGood, sheetLabels, sheetNumbers, sheetOf}
+use Rattle.scrub_kept.specs.Sheet.{Sheet, sheetOf}
 use Rattle.scrub_kept.specs.Kept.{keptItems, kept}
 use Rattle.scrub_kept.specs.Written.{written}
 use Rattle.scrub_kept.specs.Scrubbed.{roomFor, scrubbed, leaves}
+use Rattle.scrub_kept.proofs.Sheets.{sheet-why}
 
 pub scrub-is : (sheet s : List ℕ) (sh : Sheet) (r : Read) (room : ℕ) → sheetOf sheet ≡ fine sh → reading s ≡ fine r
     → scrubbed sheet s room ≡ roomFor room (written (kept sh (meant s r)))
 unfolding scrubbed andThen
 scrub-is sheet s sh r room a b = simp (a, b)
 
--- the sheet is judged first, then the pack; whatever is wrong with the sheet, it is refused as SHEET, place 0
-sheet-why : (sheet : List ℕ) (why : Refusal) (place : ℕ) → sheetOf sheet ≡ refused why place → sheetOf sheet ≡ refused R.Sheet 0
-unfolding sheetOf
-sheet-why sheet why place h =
-    split (eqb (length sheet) 0)
-    (λ e. let i : fine everything ≡ refused why place = simp e at h in absurd-eq (cc))
-    (λ e. split (headerGood sheet && (labelsGood (sheetLabels sheet) && numbersGood (sheetNumbers sheet)))
-    (λ f. let i : fine (these (sheetLabels sheet) (sheetNumbers sheet)) ≡ refused why place = simp (e, f) at h in absurd-eq (cc))
-    (λ f. simp (e, f)))
-
+-- the sheet is judged first, then the pack
 pub sheet-refused : (sheet s : List ℕ) (room : ℕ) (why : Refusal) (place : ℕ) → sheetOf sheet ≡ refused why place → scrubbed sheet s room ≡ refused R.Sheet 0
 unfolding scrubbed andThen
 sheet-refused sheet s room why place a = simp (sheet-why sheet why place a)

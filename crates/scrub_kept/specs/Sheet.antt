@@ -55,11 +55,23 @@ sheetLabels s = labelsAt s 8 (bigAt s 0 2)
 abbrev pub sheetNumbers : List ℕ → List ℕ
 sheetNumbers s = numbersAt s (8 + 16 * bigAt s 0 2) (bigAt s 4 2)
 
--- 0 bytes keep all; else the entries, or SHEET
+-- keep all: exactly a header, with 65,535 in both counts and 8 in both offsets
+unfoldable pub keepsAll : List ℕ → Bool
+keepsAll s =
+    eqb (length s) 8
+    && (eqb (bigAt s 0 2) 65535 && (eqb (bigAt s 4 2) 65535 && (eqb (bigAt s 2 2) 8 && eqb (bigAt s 6 2) 8)))
+
+-- those 8 bytes
+abbrev pub allSheet : List ℕ
+allSheet = 255 ∷ 255 ∷ 0 ∷ 8 ∷ 255 ∷ 255 ∷ 0 ∷ 8 ∷ []
+
+-- 0 bytes keep none; keep all has a header of its own; else the entries, or SHEET
 unfoldable pub sheetOf : List ℕ → Outcome Sheet
 sheetOf s =
     cond (eqb (length s) 0)
+    (fine (these [] []))
+    (cond (keepsAll s)
     (fine everything)
     (cond (headerGood s && (labelsGood (sheetLabels s) && numbersGood (sheetNumbers s)))
     (fine (these (sheetLabels s) (sheetNumbers s)))
-    (refused R.Sheet 0))
+    (refused R.Sheet 0)))

@@ -1,5 +1,5 @@
 -- What a sheet keeps, by cases on what it asks for.
-use mathlib.Core.Path.{_≡_, subst}
+use mathlib.Core.Path.{_≡_, sym, subst}
 use mathlib.Core.List.{List}
 use mathlib.Core.Bool.{Bool, true, false}
 use Prim.Native.Nat.{ℕ, _+_, _*_, _≤_}
@@ -8,6 +8,7 @@ use Rattle.runs.specs.Same.{among, listed}
 use Rattle.pack.specs.Said.{SaidName, label, number}
 use Rattle.scrub_kept.specs.Sheet.{labelsAt, numbersAt}
 use Rattle.scrub_kept.specs.Kept.{keeps}
+use Rattle.scrub_kept.proofs.Sheets.{none-keeps}
 use Rattle.scrub_sheet.specs.declared.Asked.{Asked}
 use Rattle.scrub_sheet.specs.declared.Asked.the-variants as K
 use Rattle.scrub_sheet.specs.Asked.{asks, EntriesThere}
@@ -16,13 +17,11 @@ module _ (s : List ℕ) {x : Asked} where
   pub all-keeps : (n : SaidName) → x ≡ K.All → true ≡ keeps (asks s x) n
   all-keeps n e = rw e
 
-  pub none-label : (l : List ℕ) → x ≡ K.Refused → false ≡ keeps (asks s x) (label l)
-  unfolding listed
-  none-label l e = rw e
+  pub nothing-keeps : (n : SaidName) → x ≡ K.Nothing → false ≡ keeps (asks s x) n
+  nothing-keeps n e = rw e (sym (none-keeps n))
 
-  pub none-number : (t : ℕ) → x ≡ K.Refused → false ≡ keeps (asks s x) (number t)
-  unfolding among
-  none-number t e = rw e
+  pub refused-keeps : (n : SaidName) → x ≡ K.Refused → false ≡ keeps (asks s x) n
+  refused-keeps n e = rw e (sym (none-keeps n))
 
   module _ (l t : ℕ) (e : x ≡ K.These l t) where
     pub these-hold : EntriesThere s x → 8 + 16 * l + 4 * t ≤ length s

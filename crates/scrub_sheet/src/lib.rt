@@ -5,19 +5,23 @@ ghost use Prim.Native.Nat.{ℕ, _+_, _*_, _<_, _≤_};
 ghost use lib.ListN.{length, take, drop, getD};
 ghost use Rattle.runs.specs.Same.{among, listed};
 ghost use Rattle.pack.specs.Said.{label, number};
-ghost use Rattle.scrub_kept.specs.Sheet.{labelsAt, numbersAt, labelsGood, numbersGood, headerGood};
+ghost use Rattle.scrub_kept.specs.Sheet.{labelsAt, numbersAt, labelsGood, numbersGood, headerGood, keepsAll};
 ghost use Rattle.scrub_kept.specs.Kept.{keeps};
 ghost use Rattle.scrub_sheet.specs.Asked.{sheetAsked, asks, EntriesThere, Short};
 
-// What a sheet asks for: all, its labels and numbers by their counts, or nothing since it is malformed.
+// What a sheet asks for: all, nothing, its labels and numbers by their counts, or no answer since it is malformed.
 pub enum Asked {
     All,
+    Nothing,
     These { labels: usize, numbers: usize },
     Refused,
 }
 
 // The most labels, and the most numbers, on a sheet.
 const CAP: usize = 32;
+
+// Both counts of the sheet that keeps all: no sheet has so many entries.
+const ALL: u16 = 65535;
 
 // Whether the label at `i` of `p` is one of the `count` labels of `s` from `at` on.
 fn has_label(s: &[u8], at: usize, count: usize, p: &[u8], i: usize) -> bool
@@ -140,11 +144,33 @@ fn header_good(s: &[u8]) -> bool
     s.len() == 8 + 16 * labels + 4 * count
 }
 
+// Keep all: exactly a header, with that number in both counts and 8 in both offsets.
+fn keeps_all(s: &[u8]) -> bool
+    ensures { λ r. ⌜ r ≡ keepsAll (now (s .entry)) ⌝ }
+{
+    if s.len() != 8 {
+        return false;
+    }
+    if numbers::be16(s, 0) != ALL {
+        return false;
+    }
+    if numbers::be16(s, 4) != ALL {
+        return false;
+    }
+    if numbers::be16(s, 2) != 8 {
+        return false;
+    }
+    numbers::be16(s, 6) == 8
+}
+
 // Judges the bytes of a sheet.
 pub fn judge(s: &[u8]) -> Asked
     ensures { λ r. ⌜ r ≡ sheetAsked (now (s .entry)) ⌝ }
 {
     if s.len() == 0 {
+        return Asked::Nothing;
+    }
+    if keeps_all(s) {
         return Asked::All;
     }
     if !header_good(s) {
@@ -171,6 +197,7 @@ pub fn keeps_label(s: &[u8], asked: Asked, p: &[u8], at: usize) -> bool
 {
     match asked {
         Asked::All => true,
+        Asked::Nothing => false,
         Asked::These { labels, numbers: _ } => has_label(s, 8, labels, p, at),
         Asked::Refused => false,
     }
@@ -183,6 +210,7 @@ pub fn short_numbers(s: &[u8], asked: Asked) -> [bool; 128]
 {
     match asked {
         Asked::All => [true; 128],
+        Asked::Nothing => [false; 128],
         Asked::These { labels, numbers } => short_among(s, 8 + 16 * labels, numbers),
         Asked::Refused => [false; 128],
     }
@@ -198,6 +226,7 @@ pub fn keeps_number(s: &[u8], asked: Asked, short: &[bool; 128], n: u32) -> bool
     }
     match asked {
         Asked::All => true,
+        Asked::Nothing => false,
         Asked::These { labels, numbers } => has_number(s, 8 + 16 * labels, numbers, n),
         Asked::Refused => false,
     }

@@ -1,5 +1,5 @@
 // Runs the cases on standard input through the PMD functions and prints what comes of each: the answer, how the lent run begins, and the CRC of all
-// of it. The gate hands it the file `stdin` and holds what it prints to the file `stdout`. Both are made by reference/examples/pmd_vectors.rs, which
+// of it. The gate hands it the file `stdin` and holds what it prints to the file `stdout`. Both are made by reference/examples/vectors_pmd.rs, which
 // says how a case is laid out; the answers are the reference implementation's.
 ghost use Prim.Native.Nat.{_≤_};
 use libc::STDIN_FILENO;

@@ -1,5 +1,5 @@
 // Scrubs each case that standard input brings and prints the answer and the whole buffer; the gate holds that to the file `stdout`. Cases and
-// `stdout` come from the reference: `cargo run --release --offline --example scrub_vectors` in reference/ makes both.
+// `stdout` come from the reference: `cargo run --release --offline --example vectors_scrub` in reference/ makes both.
 //
 // A case is four numbers of 32 bits, most significant byte first: how many bytes its name, its sheet, its pack and its buffer have. Name, sheet and
 // pack follow; every byte of the buffer holds EE before the scrub.

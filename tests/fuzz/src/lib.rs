@@ -9,6 +9,7 @@ use std::sync::{Mutex, OnceLock};
 use ballastwren_tests::archive::{shown, Archive, Call};
 use ballastwren_tests::oracle;
 use ballastwren_tests::packs::{crc, length_bytes, KEY};
+use ballastwren_tests::sheets::KEEP_ALL;
 
 /// Bits of the first byte, for packs.
 const WITH_KEY: u8 = 0x10;
@@ -84,7 +85,8 @@ fn pack_calls(pack: Vec<u8>, room: usize) -> Vec<Call> {
         Call::Check { pack: pack.clone() },
         Call::Read { pack: pack.clone(), rows: vec![77; 520] },
         Call::Read { pack: pack.clone(), rows: vec![77; room] },
-        Call::Scrub { sheet: vec![], pack: pack.clone(), out: vec![0xA5; pack.len() + 8] },
+        Call::Scrub { sheet: KEEP_ALL.to_vec(), pack: pack.clone(), out: vec![0xA5; pack.len() + 8] },
+        Call::Scrub { sheet: vec![], pack: pack.clone(), out: vec![0xA5; room] },
         Call::Scrub { sheet: none, pack: pack.clone(), out: vec![0xA5; room] },
         Call::Scrub { sheet: few, pack: pack.clone(), out: vec![0xA5; 4 * room] },
     ]

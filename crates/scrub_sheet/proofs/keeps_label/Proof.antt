@@ -1,7 +1,7 @@
 -- `scrub_sheet::keeps_label` meets its contract. By cases on what the sheet asks for.
 use native.Mathlib.Omega.{arith}
 use borrow.Author.Needs.{needs}
-use Rattle.scrub_sheet.proofs.Asking.{all-keeps, none-label, these-hold, these-label}
+use Rattle.scrub_sheet.proofs.Asking.{all-keeps, nothing-keeps, refused-keeps, these-hold, these-label}
 use Rattle.scrub_sheet.proofs.keeps_label.Statement.{statement}
 use Rattle.scrub_sheet.proofs.keeps_label.Tie as tie
 
@@ -17,8 +17,10 @@ keeps-label-spec =
     (tie.spec
     (λ c. search needs)
     (λ c. search needs)
+    (λ c. search needs)
     has-label-requires
     (λ c. search needs)
     (λ c. all-keeps _ _ (c .enum-told .given .1))
+    (λ c. nothing-keeps _ _ (c .enum-told2 .given .1))
     (λ c. these-label _ _ _ (c .before .before .asked .given .1) _ (c .has-label .ensures))
-    (λ c. none-label _ _ (c .enum-told2 .given .1)))
+    (λ c. refused-keeps _ _ (c .enum-told3 .given .1)))
