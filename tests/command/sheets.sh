@@ -80,14 +80,14 @@ no_sheet() {
     gives 1 '' '*sheet: refused: SHEET (14) at byte 0: *' "$BW" sheet show "$T/sheet" &&
         gives 1 '' '*sheet: refused: SHEET (14) at byte 0: *' "$BW" scrub --sheet "$T/sheet" "$SAMPLES/packs/number.pack" "$T/made" && [[ ! -e $T/made ]]
 }
-ALL=FFFF0008FFFF0008
+KEEP_ALL=FFFF0008FFFF0008
 check 'keep all: by the count of labels alone' no_sheet FFFF 0008 0000 0008
 check 'keep all: by the count of numbers alone' no_sheet 0000 0008 FFFF 0008
-check 'keep all: of 7 bytes' no_sheet ${ALL%08}
-check 'keep all: of 9 bytes' no_sheet $ALL 00
-check 'keep all: with an entry' no_sheet $ALL 00000005
-check 'keep all: as long as the longest sheet' no_sheet $ALL "$(printf '05%.0s' {1..640})"
-check 'keep all: and longer' no_sheet $ALL "$(printf '05%.0s' {1..2000})"
+check 'keep all: of 7 bytes' no_sheet ${KEEP_ALL%08}
+check 'keep all: of 9 bytes' no_sheet $KEEP_ALL 00
+check 'keep all: with an entry' no_sheet $KEEP_ALL 00000005
+check 'keep all: as long as the longest sheet' no_sheet $KEEP_ALL "$(printf '05%.0s' {1..640})"
+check 'keep all: and longer' no_sheet $KEEP_ALL "$(printf '05%.0s' {1..2000})"
 check 'keep all: with another offset' no_sheet FFFF 0008 FFFF FFF8
 
 # A mistyped text into a redirection leaves a sheet of 0 bytes, by which nothing is kept.

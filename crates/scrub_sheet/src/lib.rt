@@ -9,7 +9,7 @@ ghost use Rattle.scrub_kept.specs.Sheet.{labelsAt, numbersAt, labelsGood, numbe
 ghost use Rattle.scrub_kept.specs.Kept.{keeps};
 ghost use Rattle.scrub_sheet.specs.Asked.{sheetAsked, asks, EntriesThere, Short};
 
-// What a sheet asks for: all, nothing, its labels and numbers by their counts, or no answer since it is malformed.
+// What a sheet asks for: all, nothing, or its labels and numbers by their counts; a malformed one is refused.
 pub enum Asked {
     All,
     Nothing,
