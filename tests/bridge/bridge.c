@@ -35,7 +35,8 @@ struct outcome {
     uint32_t trouble, buffer_len;
 };
 
-/* Guards and arenas are multiples of this, which no processor's page is larger than. */
+/* Guards and arenas are multiples of this, which no processor's page is larger than. An arena holds a keep sheet as long
+   as 65,535 labels and as many numbers would make it. */
 #define PAGE 65536
 #define ARENA (32 * PAGE)
 #define MARGIN 256

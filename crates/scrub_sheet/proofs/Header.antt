@@ -47,7 +47,7 @@ header-counts s h =
     let e = and-both (eqb (bigAt s 6 2) (8 + 16 * bigAt s 0 2)) _ (d .1) in
     sym (eqb-true (length s) (8 + 16 * bigAt s 0 2 + 4 * bigAt s 4 2) (e .1))
 
--- what is asked is the sheet of document 01, and its entries are there
+-- what is asked is the sheet that the bytes come to, and its entries are there
 pub judged-outcome : (s : List ℕ) → outcome s (sheetAsked s) ≡ sheetOf s
 unfolding sheetAsked sheetOf
 judged-outcome s =
