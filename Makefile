@@ -1,42 +1,53 @@
-# make demo       scrub a pack that holds old names, from the proof to the report
-# make lib        prove what C calls and build target/staticlib/libballastwren.a
-# make command    build the command target/tools/ballastwren over it
-# make install    install archive, header, pkg-config file, command, its manual page and completion below PREFIX
-#                 (default /usr/local), in DESTDIR if given
-# make uninstall  remove them again
-# make test       the gate, from nothing: the same as .ci/run
-# make check      prove what has changed and run the programs, quickly
-# make fuzz       compare archive and reference on what a fuzzer finds, for SECONDS (default 60)
-# make bench      speeds beside the reference's, and the CRC's beside libavutil's (on x86-64)
-# make clean      remove everything that was built
-.PHONY: demo lib install uninstall test check fuzz bench clean
+# What there is to make:
+#
+#   make demo       scrub a pack that holds old names, from the proof to the report
+#   make lib        prove what C calls; build archive and shared library
+#   make command    all that, and the command over it
+#   make install    install library, header, pkg-config files, command, manual page and completion below PREFIX
+#                   (default /usr/local; libraries in LIBDIR below it, default lib), in DESTDIR if given
+#   make uninstall  remove them again
+#   make deb        the Debian packages ballastwren and libballastwren-dev
+#   make test       the gate, from nothing: the same as .ci/run
+#   make check      prove what has changed and run the programs, quickly
+#   make fuzz       compare archive and reference on what a fuzzer finds, for SECONDS (default 60)
+#   make bench      speeds beside the reference's, and the CRC's beside libavutil's
+#   make clean      remove everything that was built
+#
+# What is built stands in target/ARCH. ARCH is x86_64 or aarch64; without it, this machine's processor. Whatever is older
+# than its sources is built again, and nothing else is.
+
+.DEFAULT_GOAL = help
+.DELETE_ON_ERROR:
+.PHONY: help demo lib install uninstall deb test check fuzz bench clean
+
+MACHINE := $(shell uname -m)
+ARCH ?= $(MACHINE)
+ifeq ($(filter x86_64 aarch64,$(ARCH)),)
+$(error ARCH is '$(ARCH)': Ballastwren is built for x86_64 and aarch64)
+endif
+ifeq ($(origin CC),default)
+CC = $(if $(filter $(MACHINE),$(ARCH)),cc,$(ARCH)-linux-gnu-gcc)
+endif
 
 PREFIX ?= /usr/local
+LIBDIR ?= lib
 DESTDIR ?=
-ARCHIVE ?= target/staticlib/libballastwren.a
-HEADER = include/ballastwren.h
-VERSION = $(shell sed -n 's/^.define BW_VERSION "\(.*\)"$$/\1/p' $(HEADER))
-INSTALLED = include/ballastwren.h lib/libballastwren.a lib/pkgconfig/ballastwren.pc
+BUILT = target/$(ARCH)
+
+help:
+	@sed -n '/^#/!q; s/^# \{0,1\}//p' Makefile
+
+include packaging/library.mk
+include tools/command.mk
+
+# Nothing is installed unless all of it is built.
+install-library install-command: $(ARCHIVE) $(SHARED) $(COMMAND)
 
 demo:
-	@samples/demo.sh
+	@ARCH=$(ARCH) samples/demo.sh
 
-lib:
-	rt staticlib ballastwren
-
-# Anyone may run 'make install' after 'make lib', root without the Rattle kit too.
-$(ARCHIVE):
-	$(MAKE) lib
-
-install: $(ARCHIVE)
-	install -d '$(DESTDIR)$(PREFIX)/include' '$(DESTDIR)$(PREFIX)/lib/pkgconfig'
-	install -m 644 $(HEADER) '$(DESTDIR)$(PREFIX)/include'
-	install -m 644 '$(ARCHIVE)' '$(DESTDIR)$(PREFIX)/lib/libballastwren.a'
-	sed -e 's|@PREFIX@|$(PREFIX)|' -e 's|@VERSION@|$(VERSION)|' packaging/ballastwren.pc.in \
-		> '$(DESTDIR)$(PREFIX)/lib/pkgconfig/ballastwren.pc'
-
-uninstall:
-	for file in $(INSTALLED); do rm -f '$(DESTDIR)$(PREFIX)'/"$$file"; done
+deb: command
+	packaging/deb.sh $(ARCH)
 
 test:
 	.ci/run
@@ -44,13 +55,11 @@ test:
 check:
 	rt check
 
-fuzz: $(ARCHIVE)
-	tests/fuzz.sh $(or $(SECONDS),60)
+fuzz: lib
+	ARCH=$(ARCH) tests/fuzz.sh $(or $(SECONDS),60)
 
 bench:
 	bench/run
 
 clean:
-	rm -rf target
-
-include tools/command.mk
+	rm -rf target bench/target reference/target tests/target tests/fuzz/target

@@ -1,8 +1,8 @@
-//! Links the archive that `rt staticlib ballastwren` wrote.
+//! Links the archive that `make lib` built for this machine.
 
 fn main() {
-    let root = std::path::Path::new(env!("CARGO_MANIFEST_DIR")).join("..");
-    println!("cargo:rustc-link-search=native={}", root.join("target/staticlib").display());
+    let archives = format!("{}/../target/{}/lib", env!("CARGO_MANIFEST_DIR"), std::env::consts::ARCH);
+    println!("cargo:rustc-link-search=native={archives}");
     println!("cargo:rustc-link-lib=static=ballastwren");
-    println!("cargo:rerun-if-changed=../target/staticlib/libballastwren.a");
+    println!("cargo:rerun-if-changed={archives}/libballastwren.a");
 }

@@ -1,7 +1,9 @@
 /*
  * ballastwren.h: SMPTE ST 2109 audio-metadata packs and Dolby PMD values, from C.
  *
- * The archive libballastwren.a is for x86-64 Linux. It needs nothing but memcpy, memmove and memset.
+ * The library is for Linux on x86-64 and on aarch64, as libballastwren.a and libballastwren.so, and needs nothing but
+ * memcpy, memmove and memset. What is said here holds on both processors. The proofs are of the sources, which are the
+ * same; what compiles them for aarch64 is not the toolchain's own target (docs/TRUST.md).
  *
  * What holds for every function here
  *
@@ -54,7 +56,7 @@
 extern "C" {
 #endif
 
-/* The version of this header and of the archive beside it. */
+/* The version of this header and of the library beside it; docs/VERSIONS.md says what its numbers tell. */
 #define BW_VERSION_MAJOR 0
 #define BW_VERSION_MINOR 2
 #define BW_VERSION_PATCH 0
@@ -77,7 +79,7 @@ extern "C" {
 
 /*
  * Bytes of stack to leave for a call. Measured, not proved: bw_scrub takes 32 KiB, bw_read 29 KiB, bw_check 27 KiB, the
- * others under 1 KiB.
+ * others under 1 KiB, on either processor.
  */
 #define BW_STACK 40960
 

@@ -3,11 +3,11 @@
 # A rebuilt metadata inserter still held names of an earlier production, inside a Sync. Here it is scrubbed.
 set -euo pipefail
 cd "$(dirname "${BASH_SOURCE[0]}")/.."
-given=${ARCHIVE:-} # an archive that was built elsewhere
 . tests/tools.sh
 
 PACK=samples/packs/incident.pack
 OUT=target/demo/scrubbed.pack
+COMMAND=target/$ARCH/bin/ballastwren
 NAMES=('Harbour Derby world feed' 'Harbour Derby flux mondial' 'Derby referee microphone' 'Derby north stand')
 
 # say TEXT: what comes next.
@@ -19,7 +19,7 @@ say() {
 shown() {
     printf '$ ballastwren %s\n' "$*"
     # shellcheck disable=SC2086  # RUN is empty or a command with its options
-    $RUN target/tools/ballastwren "$@"
+    $RUN "$COMMAND" "$@"
 }
 
 # bits FILE: its bits as a string of 0 and 1.
@@ -49,28 +49,24 @@ search() {
     [[ $found -eq $2 ]]
 }
 
+# prove: builds the library anew, and shows what the prover says of each crate.
 prove() {
     local start=$SECONDS
-    if [[ -f $ARCHIVE ]]; then
-        say 'Proving what has changed of what the command calls.'
-    else
-        say 'Proving what the command calls. The first time takes some minutes; each crate is named when it is proved.'
-    fi
-    mkdir -p target/demo
-    if ! make lib 2>&1 | tee target/demo/proof.log | sed -u -n 's/^rt: /  /p'; then
+    say 'Proving what the command calls. The first time takes some minutes; each crate is named when it is proved.'
+    if ! make lib ARCH="$ARCH" CC="$CC" 2>&1 | tee target/demo/proof.log | sed -u -n 's/^rt: /  /p'; then
         tail -n 20 target/demo/proof.log
-        echo 'The proof did not go through; target/demo/proof.log has all that was said.'
+        echo 'It did not go through; target/demo/proof.log has all that was said.'
         return 1
     fi
     echo "Proved in $((SECONDS - start)) s; target/demo/proof.log has all that was said."
 }
 
-if [[ $given ]]; then say "The archive is $given. Nothing is proved here."; else prove; fi
-say 'Compiling the command over the archive.'
-need_toolchain
-make -s command CC="$CC" ARCHIVE="$ARCHIVE"
+need_compilers
 mkdir -p "${OUT%/*}"
 rm -f "$OUT"
+if make -sq lib ARCH="$ARCH" CC="$CC"; then say "What the command calls is proved, and nothing of it has changed since."; else prove; fi
+say 'Compiling the command over it.'
+make -s command ARCH="$ARCH" CC="$CC"
 
 say 'The pack that came with the rack, as it is listed. Names of payloads are labels.'
 shown list "$PACK"
@@ -100,4 +96,4 @@ shown pmd find "$OUT"
 say 'The same search.'
 search "$OUT" 0
 
-say "Done in $SECONDS s. The scrubbed pack is $OUT; 'target/tools/ballastwren --help' shows what else there is."
+say "Done in $SECONDS s. The scrubbed pack is $OUT; '$COMMAND --help' shows what else there is."

@@ -1,4 +1,4 @@
-//! Builds the bridge to the archive that `rt staticlib ballastwren` wrote, or that ARCHIVE names.
+//! Builds the bridge to the archive that `make lib` built for ARCH, or that ARCHIVE names.
 
 use std::env;
 use std::path::Path;
@@ -15,9 +15,10 @@ fn main() {
     println!("cargo:rerun-if-changed=bridge");
     println!("cargo:rerun-if-changed=tools.sh");
     println!("cargo:rerun-if-changed=../include/ballastwren.h");
-    for name in ["ARCHIVE", "CC", "RUN"] {
+    for name in ["ARCH", "ARCHIVE", "CC", "RUN"] {
         println!("cargo:rerun-if-env-changed={name}");
     }
-    let archive = env::var("ARCHIVE").unwrap_or("../target/staticlib/libballastwren.a".into());
+    let arch = env::var("ARCH").unwrap_or(env::consts::ARCH.into());
+    let archive = env::var("ARCHIVE").unwrap_or(format!("../target/{arch}/lib/libballastwren.a"));
     println!("cargo:rerun-if-changed={archive}");
 }

@@ -29,10 +29,10 @@ check "the header alone, C99 without a warning" include_alone
 check "the header in C++, and calls" cxx
 check "tests/c/exports.c builds" build exports
 tallied $RUN "$folder/exports" guard
-# A memory checker sees every access outside the heap ranges. It runs programs of its own processor only. Bytes that were never written are not
+# A memory checker sees every access outside the heap ranges. It runs programs of this machine's processor only. Bytes that were never written are not
 # its business here: an optimiser may look at such bytes and throw the outcome away.
 if [[ $RUN ]]; then
-    echo "skipped the run under valgrind: this machine is no x86-64"
+    echo "skipped the run under valgrind: the archive is for $ARCH, and this machine is $(uname -m)"
 elif need valgrind valgrind; then
     tallied valgrind --quiet --undef-value-errors=no --error-exitcode=3 "$folder/exports" heap
 fi

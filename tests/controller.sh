@@ -1,6 +1,7 @@
 #!/usr/bin/env bash
-# Installs archive, header and pkg-config file into a folder, builds examples/controller.c by pkg-config from there, and
-# compares what it prints for a keep sheet and five packs, most of them with something to drop.
+# Installs into a folder, whose name has a space, and builds from there by pkg-config, over the shared library and over the
+# archive: examples/controller.c, held to what it prints for a keep sheet and five packs, most of them with something to drop;
+# and README's lines of C, as they stand there.
 set -uo pipefail
 cd "$(dirname "${BASH_SOURCE[0]}")/.." || exit 2
 . tests/tools.sh
@@ -49,26 +50,65 @@ reserved: refused FIELD at 18
 cut: refused CUT at 17
 LINES
 
+prefix="$folder/a prefix"
+
+# flags MODULE: what pkg-config says of what was installed, one word to a line.
+flags() {
+    PKG_CONFIG_PATH=$prefix/lib/pkgconfig pkg-config --cflags --libs "$1" | xargs -n 1 printf '%s\n'
+}
+
+# build MODULE SOURCE WORDS...: compiles a program over the library as MODULE of pkg-config has it.
 build() {
-    local flags
-    flags=$(PKG_CONFIG_PATH=$folder/usr/lib/pkgconfig pkg-config --cflags --libs ballastwren) || return
-    # shellcheck disable=SC2086
-    $CC -std=c99 -O2 -Wall -Wextra -pedantic -Werror -o "$folder/controller" examples/controller.c $flags
+    local words
+    mapfile -t words < <(flags "$1")
+    [[ ${#words[@]} -gt 1 ]] && "$CC" -Wall -Wextra -pedantic -Werror "${@:3}" -o "$folder/$1" "$2" "${words[@]}"
+}
+
+# run MODULE WORDS...: runs it with the loader told where the shared library is.
+run() {
+    # shellcheck disable=SC2086  # RUN is empty or a command with its options
+    LD_LIBRARY_PATH=$prefix/lib $RUN "$folder/$1" "${@:2}"
 }
 
 # Status 1 is right: two of the packs are refused.
-run() {
-    cd "$folder" || return
-    $RUN ./controller sheet moving still nothing reserved cut >printed
-    [[ $? -eq 1 ]] && diff expected printed
+controls() {
+    build "$1" examples/controller.c -std=c99 -O2 || return
+    (cd "$folder" && run "$1" sheet moving still nothing reserved cut >printed; [[ $? -eq 1 ]]) && diff "$folder/expected" "$folder/printed"
 }
+
+# README's lines: they compile as they stand, keep every payload of a pack, and refuse what is no pack.
+sed -n '/^## From C/,/^## /p' README.md | sed -n 's/^    //p' | sed '/^cc /,$d' >"$folder/lines.c"
+as_in_readme() {
+    build "$1" "$folder/lines.c" || return
+    run "$1" <"$folder/still" >"$folder/kept" && [[ $(wc -c <"$folder/kept") -eq 27 ]] || return
+    run "$1" <"$folder/cut" >"$folder/kept" 2>"$folder/said" && return 1
+    [[ ! -s $folder/kept && $(<"$folder/said") == 'refused CUT at 17' ]]
+}
+
+# links_shared MODULE: the program that was built needs the shared library by its name, or does not.
+links_shared() { readelf -d "$folder/$1" | grep -q 'NEEDED.*\[libballastwren\.so\.[0-9]*\.[0-9]*\]'; }
+links_archive() { ! links_shared "$1"; }
+
+# The shared library has the version's name, and exports what the header declares and nothing else.
+exports() {
+    local declared exported
+    declared=$(grep -oE '^[a-z0-9_]+ bw_[a-z_]+\(' include/ballastwren.h | grep -oE 'bw_[a-z_]+' | grep -v '_answer$' | sort)
+    exported=$(readelf -W --dyn-syms "$prefix/lib/libballastwren.so" | awk '$5 == "GLOBAL" && $7 != "UND" { print $8 }' | sort)
+    diff <(echo "$declared") <(echo "$exported") && readelf -d "$prefix/lib/libballastwren.so" | grep -q "SONAME.*\[$soname\]"
+}
+soname=libballastwren.so.$(sed -n 's/^.define BW_VERSION "\([0-9]*\.[0-9]*\)\..*"$/\1/p' include/ballastwren.h)
 
 uninstalled() {
-    make -s uninstall PREFIX="$folder/usr" && [[ -z $(find "$folder/usr" -type f) ]]
+    make -s uninstall PREFIX="$prefix" ARCH="$ARCH" && [[ -z $(find "$prefix" ! -type d) ]]
 }
 
-check "make install" make -s install PREFIX="$folder/usr" ARCHIVE="$ARCHIVE"
-check "examples/controller.c builds by pkg-config" build
-check "the controller prints the positions that are kept" run
+check "make install, below a folder with a space in its name" make -s install PREFIX="$prefix" ARCH="$ARCH" CC="$CC"
+check "the shared library exports bw_… alone, as $soname" exports
+for module in ballastwren ballastwren-static; do
+    check "$module: examples/controller.c prints the positions that are kept" controls "$module"
+    check "$module: README's lines of C compile as they stand" as_in_readme "$module"
+done
+check "ballastwren links the shared library" links_shared ballastwren
+check "ballastwren-static links the archive" links_archive ballastwren-static
 check "make uninstall leaves no file" uninstalled
 finish

@@ -1,5 +1,5 @@
 #!/usr/bin/env bash
-# Holds the pages to the tree: every path that README.md, CHANGELOG.md and docs/ name exists, every theorem that they name is stated
+# Holds the pages to the tree: every path that the pages at the root and in docs/ name exists, every theorem that they name is stated
 # (in the file that follows it in brackets, or on the page of promises), every form of docs/FORMS.md stands at its line, every heading of
 # docs/DECISIONS.md is in its index, every must-fail edit says which wrong answer it is, the border between trusted and inner specifications
 # is the one that the promises draw, and every public function stands once in docs/GUARANTEES.md under the law that it has one outcome.
@@ -8,7 +8,7 @@ set -uo pipefail
 cd "$(dirname "$0")/.." || exit 2
 
 passed=0 failed=0
-pages=(README.md CHANGELOG.md docs/*.md)
+pages=(README.md CHANGELOG.md CONTRIBUTING.md SECURITY.md docs/*.md)
 promises=crates/promises/proofs/Promises.antt
 
 # told GOOD WHAT: counts a check, and says what failed.
@@ -25,8 +25,8 @@ paths() {
         while read -r path; do
             path=${path%[.,:]}
             if [[ -e $path ]]; then told yes; else told no "$page names $path, which is not there"; fi
-        done < <(grep -oE '(^|[^A-Za-z0-9_./-])(crates|reference|bench|docs|include|tests|tools|examples|samples|\.ci)/[A-Za-z0-9_./-]+' "$page" |
-            grep -oE '(crates|reference|bench|docs|include|tests|tools|examples|samples|\.ci)/.*' | sort -u)
+        done < <(grep -oE '(^|[^A-Za-z0-9_./-])(crates|reference|bench|docs|include|tests|tools|examples|samples|packaging|\.ci)/[A-Za-z0-9_./-]+' "$page" |
+            grep -oE '(crates|reference|bench|docs|include|tests|tools|examples|samples|packaging|\.ci)/.*' | sort -u)
     done
 }
 

@@ -2,19 +2,25 @@
 # Sourced by the scripts beside it, from the root of the tree: what compiles and runs programs that link the archive,
 # which packages they need, and the count of checks.
 #
-#   ARCHIVE  the archive under test         CC, CXX  compilers for x86-64
-#   RUN      what runs x86-64 programs; empty on an x86-64 machine
+#   ARCH     the processor to test for; by default this machine's
+#   ARCHIVE  the archive under test         CC, CXX  compilers for ARCH
+#   RUN      what runs programs for ARCH; empty on such a machine
 #
-# Each may be set by the caller. The archive is for x86-64 alone: on another processor its programs are cross-compiled
-# and run under an emulator.
+# Each may be set by the caller. Programs for another processor than the machine's are cross-compiled and run under an
+# emulator.
 
-: "${ARCHIVE:=$PWD/target/staticlib/libballastwren.a}"
-if [[ $(uname -m) == x86_64 ]]; then
-    : "${CC:=gcc}" "${CXX:=g++}" "${RUN=}"
+# emulator ARCH: what runs programs for a processor; nothing for this machine's own.
+emulator() { [[ $1 == "$(uname -m)" ]] || echo "qemu-$1 -L /usr/$1-linux-gnu"; }
+
+: "${ARCH:=$(uname -m)}"
+: "${ARCHIVE:=$PWD/target/$ARCH/lib/libballastwren.a}"
+: "${RUN=$(emulator "$ARCH")}"
+if [[ $ARCH == "$(uname -m)" ]]; then
+    : "${CC:=gcc}" "${CXX:=g++}"
 else
-    : "${CC:=x86_64-linux-gnu-gcc}" "${CXX:=x86_64-linux-gnu-g++}" "${RUN=qemu-x86_64 -L /usr/x86_64-linux-gnu}"
+    : "${CC:=$ARCH-linux-gnu-gcc}" "${CXX:=$ARCH-linux-gnu-g++}"
 fi
-export ARCHIVE CC CXX RUN
+export ARCH ARCHIVE CC CXX RUN
 
 # install_package PACKAGE: installs a Debian package, quietly.
 install_package() {
@@ -33,13 +39,18 @@ need() {
     return 1
 }
 
-# need_toolchain: what compiles and runs programs over the archive, and the archive itself.
-need_toolchain() {
+# need_compilers: what compiles and runs programs over the archive.
+need_compilers() {
     case $CC in
-    x86_64-linux-gnu-gcc) need "$CC" gcc-x86-64-linux-gnu && need "$CXX" g++-x86-64-linux-gnu ;;
+    *-linux-gnu-gcc) need "$CC" "gcc-${ARCH//_/-}-linux-gnu" && need "$CXX" "g++-${ARCH//_/-}-linux-gnu" ;;
     *) need "$CC" gcc && need "$CXX" g++ ;;
     esac || return
-    if [[ $RUN ]]; then need "${RUN%% *}" qemu-user || return; fi
+    if [[ $RUN ]]; then need "${RUN%% *}" qemu-user; fi
+}
+
+# need_toolchain: these, and the archive itself.
+need_toolchain() {
+    need_compilers || return
     [[ -f $ARCHIVE ]] || { echo "no archive at $ARCHIVE: make lib"; return 1; }
 }
 

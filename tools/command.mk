@@ -1,25 +1,20 @@
-# The command over the archive: built and installed. The Makefile includes this file and gives PREFIX, DESTDIR, ARCHIVE
-# and the rule for it.
-COMMAND = target/tools/ballastwren
+# The command over the archive: built and installed. The Makefile includes this file after that of the library and gives ARCH,
+# BUILT, CC, PREFIX and DESTDIR.
+COMMAND = $(BUILT)/bin/ballastwren
 COMMAND_CFLAGS = -std=c99 -D_XOPEN_SOURCE=700 -Wall -Wextra -pedantic
 COMMAND_INSTALLED = bin/ballastwren share/man/man1/ballastwren.1 share/bash-completion/completions/ballastwren
 CFLAGS ?= -O2
 
-# The archive is for x86-64.
-ifeq ($(origin CC) $(filter x86_64,$(shell uname -m)),default )
-CC = x86_64-linux-gnu-gcc
-endif
-
 .PHONY: command install-command uninstall-command
 
-command: $(COMMAND)
+command: lib $(COMMAND)
 
-$(COMMAND): $(wildcard tools/*.c tools/*.h) include/ballastwren.h $(ARCHIVE)
+$(COMMAND): $(ARCHIVE) $(wildcard tools/*.c tools/*.h) tools $(HEADER)
 	mkdir -p $(dir $@)
 	$(CC) $(COMMAND_CFLAGS) $(CFLAGS) -Iinclude $(LDFLAGS) -o $@ $(filter %.c,$^) $(ARCHIVE) $(LDLIBS)
 
 install: install-command
-install-command: $(COMMAND)
+install-command:
 	install -d '$(DESTDIR)$(PREFIX)/bin' '$(DESTDIR)$(PREFIX)/share/man/man1' \
 		'$(DESTDIR)$(PREFIX)/share/bash-completion/completions'
 	install -m 755 $(COMMAND) '$(DESTDIR)$(PREFIX)/bin'

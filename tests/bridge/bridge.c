@@ -1,6 +1,6 @@
 /*
  * Calls the archive for a program that does not link it: batches of calls on standard input, their outcomes on standard
- * output. The archive is for x86-64, and the program that compares may run on another processor.
+ * output. So a call that faults is told with its input, and the archive may be for another processor, under an emulator.
  *
  * A batch is a 32-bit count of bytes and then as many bytes of calls, each a `struct call` and the bytes of its three
  * ranges; the outcomes come back in the same form, each a `struct outcome` and the buffer's bytes. All is little-endian.

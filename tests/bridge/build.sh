@@ -1,5 +1,5 @@
 #!/usr/bin/env bash
-# Builds the bridge to the archive: build.sh OUT. The last line it prints is the command that runs x86-64 programs here.
+# Builds the bridge to the archive: build.sh OUT. The last line it prints is the command that runs it here.
 set -euo pipefail
 cd "$(dirname "${BASH_SOURCE[0]}")/../.."
 . tests/tools.sh

@@ -33,10 +33,9 @@ check 'completion: nothing after the last operand' completes '' ballastwren list
 
 # installed: all files stand where they belong, the command runs, and uninstall leaves none.
 installed() {
-    local make=(make --no-print-directory "DESTDIR=$T/root" PREFIX=/usr "ARCHIVE=$ARCHIVE" "CC=$CC")
+    local make=(make --no-print-directory "DESTDIR=$T/root" PREFIX=/usr "ARCH=$ARCH" "CC=$CC")
     "${make[@]}" install &&
-        (cd "$T/root/usr" && ls bin/ballastwren share/man/man1/ballastwren.1 share/bash-completion/completions/ballastwren \
-            include/ballastwren.h lib/libballastwren.a) &&
+        (cd "$T/root/usr" && ls bin/ballastwren share/man/man1/ballastwren.1 share/bash-completion/completions/ballastwren) &&
         $RUN "$T/root/usr/bin/ballastwren" --version &&
         "${make[@]}" uninstall && [[ -z $(find "$T/root" -type f) ]]
 }

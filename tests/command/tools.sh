@@ -6,7 +6,7 @@ T=$(mktemp -d) || exit 2
 chmod 755 "$T"
 trap 'rm -rf "$T"' EXIT
 
-: "${LIST:=$RUN $PWD/target/bin/list}"
+: "${LIST:=$(emulator x86_64) $PWD/target/bin/list}" # the toolchain's programs are for x86-64
 SAMPLES=$PWD/samples
 BW=$T/ballastwren         # the command, started as the machine needs it
 FAILING=$T/failing        # the same over tests/command/fail.c
@@ -26,9 +26,15 @@ starter() {
     chmod 755 "$1"
 }
 
+# need_list: what runs the program `list`, whose C library is the cross compiler's.
+need_list() {
+    local run
+    run=$(emulator x86_64)
+    [[ -z $run ]] || { need "${run%% *}" qemu-user && need x86_64-linux-gnu-gcc gcc-x86-64-linux-gnu; }
+}
+
 build_all() {
     local wraps=(read write pread fsync fchmod close rename)
-    rm -f target/tools/ballastwren # it may be over another archive
     compile "$T/command.bin" &&
         compile "$T/failing.bin" "${wraps[@]/#/-Wl,--wrap=}" tests/command/fail.c &&
         starter "$BW" "$T/command.bin" && starter "$FAILING" "$T/failing.bin" &&
