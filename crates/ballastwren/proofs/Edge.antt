@@ -37,7 +37,7 @@ done-told (A.Done n) e = refl
 done-told (A.Refused why place) e =
     let never = told-apart (A.Refused why place) (A.Done place) (ap (λ (n : ℕ). record { number = n; value = place }) e) in absurd-eq (cc)
 
-refused-told : (a : Answer) → ((toldOf a) .number ≡ 0 → ⊥) → (why : Refusal) × (place : ℕ) × (a ≡ A.Refused why place)
+pub refused-told : (a : Answer) → ((toldOf a) .number ≡ 0 → ⊥) → (why : Refusal) × (place : ℕ) × (a ≡ A.Refused why place)
 refused-told (A.Done n) h = absurd (h refl)
 refused-told (A.Refused why place) h = (why, place, refl)
 

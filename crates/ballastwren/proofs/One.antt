@@ -5,8 +5,10 @@ use mathlib.Core.List.{List}
 use Rattle.runs.proofs.Cases.{one}
 use Rattle.refusals.proofs.One.{lends-one}
 use Rattle.pack.specs.Reading.{checked}
+use Rattle.scrub_kept.specs.Sheet.{sheetChecked}
 use Rattle.pmd.specs.Gain.{levelOf}
 use Rattle.ballastwren.specs.Told.{toldOf, toldGainOf, BwRead, BwScrub, BwPmdRead, BwPmdWrite}
+use Rattle.ballastwren.specs.Version.{version}
 use Rattle.ballastwren.specs.declared.Told.{Told}
 use Rattle.ballastwren.specs.declared.ToldGain.{ToldGain}
 
@@ -21,6 +23,9 @@ pub bw-scrub-one : (sheet pack before us vs : List ℕ) (a b : Told)
     → BwScrub sheet pack before a us → BwScrub sheet pack before b vs → (a ≡ b) × (us ≡ vs)
 bw-scrub-one sheet pack before us vs a b = lends-one
 
+pub bw-sheet-check-one : (sheet : List ℕ) (a b : Told) → a ≡ toldOf (sheetChecked sheet) → b ≡ toldOf (sheetChecked sheet) → a ≡ b
+bw-sheet-check-one sheet a b = one
+
 pub bw-pmd-read-one : (kind : ℕ) (value before us vs : List ℕ) (a b : Told)
     → BwPmdRead kind value before a us → BwPmdRead kind value before b vs
     → (a ≡ b) × (us ≡ vs)
@@ -33,3 +38,6 @@ bw-pmd-write-one kind numbers before us vs a b = lends-one
 
 pub bw-gain-one : (gain : ℕ) (a b : ToldGain) → a ≡ toldGainOf (levelOf gain) → b ≡ toldGainOf (levelOf gain) → a ≡ b
 bw-gain-one gain a b = one
+
+pub bw-version-one : (a b : ℕ) → a ≡ version → b ≡ version → a ≡ b
+bw-version-one a b = one

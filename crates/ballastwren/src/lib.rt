@@ -2,8 +2,10 @@
 // No function here asks anything of its caller, keeps a state or takes memory.
 ghost use mathlib.Core.Path.{_≡_};
 ghost use Rattle.pack.specs.Reading.{checked};
+ghost use Rattle.scrub_kept.specs.Sheet.{sheetChecked};
 ghost use Rattle.pmd.specs.Gain.{levelOf};
 ghost use Rattle.ballastwren.specs.Told.{toldOf, toldGainOf, BwRead, BwScrub, BwPmdRead, BwPmdWrite};
+ghost use Rattle.ballastwren.specs.Version.{version};
 use pmd::Level;
 use refusals::Answer;
 
@@ -21,6 +23,13 @@ pub struct ToldGain {
     pub muted: u32,
     pub half_db: i32,
 }
+
+// The version, as include/ballastwren.h has it.
+const MAJOR: u32 = 0;
+
+const MINOR: u32 = 3;
+
+const PATCH: u32 = 0;
 
 fn wide(n: u32) -> u64
     ensures { λ r. ⌜ r ≡ n ⌝ }
@@ -75,6 +84,15 @@ pub extern "C" fn bw_scrub(sheet: &[u8], pack: &[u8], out: &mut [u8]) -> Told
     told_answer(a)
 }
 
+// Judges a keep sheet alone. Answers how many labels and tag numbers stand on it, none on the one that keeps all, or SHEET as bw_scrub would.
+#[no_mangle]
+pub extern "C" fn bw_sheet_check(sheet: &[u8]) -> Told
+    ensures { λ r. ⌜ r ≡ toldOf (sheetChecked (now (sheet .entry))) ⌝ }
+{
+    let a = scrub_sheet::check(sheet);
+    told_answer(a)
+}
+
 // Reads a PMD value of this kind into `numbers`, all its fields in order. Answers how many numbers were written, or the refusal: KIND, BIG, those of
 // the fields with their bit as place, PAD, then NOROOM. Numbers after those written do not change; a refusal changes none.
 #[no_mangle]
@@ -118,4 +136,12 @@ pub extern "C" fn bw_gain(gain: u32) -> ToldGain
             half_db: 0,
         },
     }
+}
+
+// The version of the library as one number.
+#[no_mangle]
+pub extern "C" fn bw_version() -> u32
+    ensures { λ r. ⌜ r ≡ version ⌝ }
+{
+    MAJOR * 10000 + MINOR * 100 + PATCH
 }

@@ -6,12 +6,13 @@ use native.Mathlib.Omega.{arith}
 use lib.ListN.{take}
 use Rattle.runs.specs.Digits.{Bytes}
 use Rattle.pack.specs.Reading.{checked}
+use Rattle.scrub_kept.specs.Sheet.{sheetChecked}
 use Rattle.pmd.specs.Gain.{levelOf}
 use Rattle.ballastwren.specs.Told.{toldOf, toldGainOf, BwRead, BwScrub, BwPmdRead, BwPmdWrite}
 use Rattle.ballastwren.specs.declared.Told.{Told}
 use Rattle.ballastwren.specs.declared.ToldGain.{ToldGain}
 use Rattle.promises.proofs.Promises as promises
-use Rattle.demands.specs.Demands.{Unchanged, InTurn, ScrubTwo, ScrubAndRead, ReadAndWrite, WriteAndRead, CheckAndRead, TellGain}
+use Rattle.demands.specs.Demands.{Unchanged, InTurn, ScrubTwo, ScrubAndRead, ReadAndWrite, WriteAndRead, CheckAndRead, CheckSheetAndScrub, TellGain}
 
 -- TWO CALLS IN TURN
 
@@ -67,6 +68,21 @@ check-then-read pack bytes x y =
       refused = told .0;
       room = told .1;
       noRoom = told .2;
+    }
+
+pub check-then-scrub : (sheet s : List ℕ) {before out : List ℕ} {a b : Told} → Bytes s → a ≡ toldOf (sheetChecked sheet) → BwScrub sheet s before b out
+    → CheckSheetAndScrub sheet s before a b out
+check-then-scrub sheet s bytes x y =
+    let alike = promises.sheet-check-then-scrub sheet s bytes x y in
+    let counts = promises.sheet-entries sheet x in
+    record {
+      first = x;
+      second = y;
+      unchanged = promises.refused-unchanged sheet s y;
+      refused = alike .0;
+      accepted = alike .1;
+      entries = counts .0;
+      all = counts .1;
     }
 
 -- PMD VALUES

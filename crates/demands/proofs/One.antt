@@ -10,7 +10,7 @@ use Rattle.refusals.proofs.One.{lends-one}
 use Rattle.ballastwren.specs.Told.{BwRead, BwScrub, BwPmdRead, BwPmdWrite}
 use Rattle.ballastwren.specs.declared.Told.{Told}
 use Rattle.ballastwren.specs.declared.ToldGain.{ToldGain}
-use Rattle.demands.specs.Demands.{InTurn, ScrubTwo, ScrubAndRead, ReadAndWrite, WriteAndRead, CheckAndRead, TellGain}
+use Rattle.demands.specs.Demands.{InTurn, ScrubTwo, ScrubAndRead, ReadAndWrite, WriteAndRead, CheckAndRead, CheckSheetAndScrub, TellGain}
 
 -- two calls in turn, each of which has one outcome
 in-turn-one : (First : Told → List ℕ → Type 0) (Second : List ℕ → Told → List ℕ → Type 0) {D E : Type 0} {before run xs ys us vs : List ℕ} {a b c d : Told}
@@ -49,6 +49,10 @@ write-and-read-one kind numbers before run us vs xs ys a b c d p q = in-turn-one
 pub check-and-read-one : (pack run us vs : List ℕ) (a b c d : Told)
     → CheckAndRead pack run a b us → CheckAndRead pack run c d vs → (a ≡ c) × ((b ≡ d) × (us ≡ vs))
 check-and-read-one pack run us vs a b c d p q = (one (p .first) (q .first), lends-one (p .second) (q .second))
+
+pub check-sheet-and-scrub-one : (sheet s before us vs : List ℕ) (a b c d : Told)
+    → CheckSheetAndScrub sheet s before a b us → CheckSheetAndScrub sheet s before c d vs → (a ≡ c) × ((b ≡ d) × (us ≡ vs))
+check-sheet-and-scrub-one sheet s before us vs a b c d p q = (one (p .first) (q .first), lends-one (p .second) (q .second))
 
 pub tell-gain-one : (gain : ℕ) (a b : ToldGain) → TellGain gain a → TellGain gain b → a ≡ b
 tell-gain-one gain a b p q = one (p .call) (q .call)

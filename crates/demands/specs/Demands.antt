@@ -14,7 +14,7 @@ use Rattle.pack_layout.specs.Layout.{Description, layout}
 use Rattle.pack_layout.specs.Well.{WellFormed}
 use Rattle.pack_layout.specs.Agrees.{Sound}
 use Rattle.pack_layout.specs.Refused.{Refused}
-use Rattle.scrub_kept.specs.Sheet.{Sheet, sheetOf}
+use Rattle.scrub_kept.specs.Sheet.{Sheet, these, allSheet, sheetOf, sheetChecked}
 use Rattle.scrub_kept.specs.Kept.{keptItems, kept}
 use Rattle.scrub_kept.specs.Scrubbed.{ReadsAs}
 use Rattle.pmd.specs.Gain.{levelOf}
@@ -105,6 +105,17 @@ pub record CheckAndRead (pack run : List ℕ) (a b : Told) (rows : List ℕ) : T
   pub refused : (a .number ≡ 0 → ⊥) → b ≡ a
   pub room : a .number ≡ 0 → 8 * (1 + a .value) ≤ length run → b ≡ record { number = 0; value = 8 * (1 + a .value) }
   pub noRoom : a .number ≡ 0 → length run < 8 * (1 + a .value) → b ≡ record { number = 15; value = 0 }
+
+-- check_sheet_and_scrub: a sheet is checked, and a pack scrubbed by it. A refusal of the check is SHEET and the scrub's; a sheet that the check accepts is
+-- SHEET for no scrub. The count is that of its labels and tag numbers, of which the sheet that keeps all has none
+pub record CheckSheetAndScrub (sheet s before : List ℕ) (a b : Told) (out : List ℕ) : Type 0 where
+  pub first : a ≡ toldOf (sheetChecked sheet)
+  pub second : BwScrub sheet s before b out
+  pub unchanged : Unchanged b before out
+  pub refused : (a .number ≡ 0 → ⊥) → (a ≡ record { number = 14; value = 0 }) × (b ≡ a)
+  pub accepted : a .number ≡ 0 → b .number ≡ 14 → ⊥
+  pub entries : (ls : List (List ℕ)) (ts : List ℕ) → sheetOf sheet ≡ fine (these ls ts) → a ≡ record { number = 0; value = length ls + length ts }
+  pub all : sheet ≡ allSheet → a ≡ record { number = 0; value = 0 }
 
 -- tell_gain: a gain is muted at 0, else gain minus 51 in half decibels; above 63 it is FIELD
 pub record TellGain (gain : ℕ) (t : ToldGain) : Type 0 where

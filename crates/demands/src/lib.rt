@@ -1,6 +1,6 @@
 // The demands of document 01 as functions over what C calls: each calls exports, and its contract says which, of what, and the demands that they meet.
 // An export that promised less would leave its function here without a proof.
-ghost use Rattle.demands.specs.Demands.{ScrubTwo, ScrubAndRead, ReadAndWrite, WriteAndRead, CheckAndRead, TellGain};
+ghost use Rattle.demands.specs.Demands.{ScrubTwo, ScrubAndRead, ReadAndWrite, WriteAndRead, CheckAndRead, CheckSheetAndScrub, TellGain};
 use ballastwren::Told;
 use ballastwren::ToldGain;
 
@@ -73,6 +73,15 @@ pub fn check_and_read(pack: &[u8], rows: &mut [u32]) -> Two
 {
     let first = ballastwren::bw_check(pack);
     let second = ballastwren::bw_read(pack, &mut *rows);
+    Two { first, second }
+}
+
+// Checks a sheet, and scrubs a pack by it.
+pub fn check_sheet_and_scrub(sheet: &[u8], pack: &[u8], out: &mut [u8]) -> Two
+    ensures { λ r. ⌜ CheckSheetAndScrub (now (sheet .entry)) (now (pack .entry)) (now (out .entry)) (r .first) (r .second) (now (out .exit)) ⌝ }
+{
+    let first = ballastwren::bw_sheet_check(sheet);
+    let second = ballastwren::bw_scrub(sheet, pack, &mut *out);
     Two { first, second }
 }
 

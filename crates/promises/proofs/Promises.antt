@@ -52,7 +52,7 @@ use Rattle.pack_layout.proofs.Refusals as refused-packs
 use Rattle.runs.specs.Those.{those, Each}
 use Rattle.runs.proofs.Those.{those-pass}
 use Rattle.numbers.specs.Big.{bigAt}
-use Rattle.scrub_kept.specs.Sheet.{Sheet, everything, these, allSheet, sheetOf}
+use Rattle.scrub_kept.specs.Sheet.{Sheet, everything, these, allSheet, sheetOf, sheetChecked}
 use Rattle.scrub_kept.specs.Kept.{keptItems, kept}
 use Rattle.scrub_kept.specs.Placed.{Placed, grouped, placed, onSheet, HasPayload, namedBy}
 use Rattle.scrub_kept.specs.Written.{numbersIn, labelsIn, described, written}
@@ -77,11 +77,13 @@ use Rattle.pmd.proofs.One as gains
 use Rattle.pmd_read.proofs.One as pmd-reads
 use Rattle.pmd_write.proofs.One as pmd-writes
 use Rattle.ballastwren.specs.Told.{toldOf, toldGainOf, BwRead, BwScrub, BwPmdRead, BwPmdWrite}
+use Rattle.ballastwren.specs.Version.{version}
 use Rattle.ballastwren.specs.declared.Told.{Told}
 use Rattle.ballastwren.specs.declared.ToldGain.{ToldGain}
 use Rattle.promises.specs.Starts.{AllStand}
 use Rattle.promises.proofs.Starts as starts
 use Rattle.ballastwren.proofs.Checks as checks
+use Rattle.ballastwren.proofs.SheetChecks as sheet-checks
 use Rattle.ballastwren.proofs.Edge as edge
 use Rattle.ballastwren.proofs.Most as most
 use Rattle.ballastwren.proofs.One as exports
@@ -404,6 +406,19 @@ pub told-exactly : (pack : List ℕ) → Bytes pack → {a : Told} → a ≡ tol
     → (a ≡ record { number = numberOf why; value = place } → Refused pack why place) × (Refused pack why place → a ≡ record { number = numberOf why; value = place })
 told-exactly = checks.told-exactly
 
+-- A sheet that `bw_sheet_check` refuses, always as SHEET, number 14 and place 0, is refused in the same words by every `bw_scrub`, whatever the pack and the
+-- buffer; and no scrub by a sheet that it accepts tells SHEET.
+pub sheet-check-then-scrub : (sheet s : List ℕ) {before after : List ℕ} {a b : Told} → Bytes s → a ≡ toldOf (sheetChecked sheet) → BwScrub sheet s before b after
+    → ((a .number ≡ 0 → ⊥) → (a ≡ record { number = 14; value = 0 }) × (b ≡ a)) × (a .number ≡ 0 → b .number ≡ 14 → ⊥)
+sheet-check-then-scrub sheet s bytes x = sheet-checks.sheet-check-then-scrub sheet x s bytes
+
+-- `bw_sheet_check` counts the labels and the tag numbers of a sheet that has entries, none on the sheet that keeps all, and never more than 64.
+pub sheet-entries : (sheet : List ℕ) {a : Told} → a ≡ toldOf (sheetChecked sheet)
+    → ((ls : List (List ℕ)) (ts : List ℕ) → sheetOf sheet ≡ fine (these ls ts) → a ≡ record { number = 0; value = length ls + length ts })
+    × (sheet ≡ allSheet → a ≡ record { number = 0; value = 0 })
+    × (a .number ≡ 0 → a .value ≤ 64)
+sheet-entries = sheet-checks.sheet-entries
+
 -- `bw_gain` tells a gain muted at 0, else gain minus 51 in half decibels; a gain above 63 is FIELD, number 17.
 pub gain-levels : (gain : ℕ) {t : ToldGain} → t ≡ toldGainOf (levelOf gain)
     → (gain ≡ 0 → t ≡ record { number = 0; muted = 1; «half_db» = pos 0 })
@@ -428,6 +443,9 @@ pub bw-scrub-one : (sheet pack before us vs : List ℕ) (a b : Told)
     → BwScrub sheet pack before a us → BwScrub sheet pack before b vs → (a ≡ b) × (us ≡ vs)
 bw-scrub-one = exports.bw-scrub-one
 
+pub bw-sheet-check-one : (sheet : List ℕ) (a b : Told) → a ≡ toldOf (sheetChecked sheet) → b ≡ toldOf (sheetChecked sheet) → a ≡ b
+bw-sheet-check-one = exports.bw-sheet-check-one
+
 pub bw-pmd-read-one : (kind : ℕ) (value before us vs : List ℕ) (a b : Told)
     → BwPmdRead kind value before a us → BwPmdRead kind value before b vs
     → (a ≡ b) × (us ≡ vs)
@@ -440,6 +458,9 @@ bw-pmd-write-one = exports.bw-pmd-write-one
 
 pub bw-gain-one : (gain : ℕ) (a b : ToldGain) → a ≡ toldGainOf (levelOf gain) → b ≡ toldGainOf (levelOf gain) → a ≡ b
 bw-gain-one = exports.bw-gain-one
+
+pub bw-version-one : (a b : ℕ) → a ≡ version → b ≡ version → a ≡ b
+bw-version-one = exports.bw-version-one
 
 -- No two refusals have the same number.
 pub numbers-apart : (a b : Refusal) → numberOf a ≡ numberOf b → a ≡ b

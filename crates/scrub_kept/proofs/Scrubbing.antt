@@ -9,15 +9,19 @@ use lib.Dec.{leb}
 use lib.ListN.{length, take, drop, replicate}
 use lib.Seq.{take-at, drop-at}
 use borrow.Author.Tests.{leb-true, le-leb, lt-leb}
+use Rattle.runs.specs.Digits.{Bytes}
 use Rattle.runs.proofs.Cases.{split, absurd-eq}
 use Rattle.refusals.specs.declared.Refusal.{Refusal}
 use Rattle.refusals.specs.declared.Refusal.the-variants as R
 use Rattle.refusals.specs.declared.Answer.the-variants as A
 use Rattle.refusals.specs.Outcomes.{Outcome, fine, refused, andThen, answered}
+use Rattle.refusals.specs.Refusals.{numberOf}
+use Rattle.refusals.proofs.Outcomes.{then-fine, then-stops}
 use Rattle.pack.specs.Fixed.{packCap}
 use Rattle.pack.specs.Said.{SaidItem}
 use Rattle.pack.specs.Reading.{Read, reading}
 use Rattle.pack.specs.Meaning.{meant}
+use Rattle.pack_layout.proofs.Reasons.{reading-reason}
 use Rattle.scrub_kept.specs.Sheet.{Sheet, sheetOf}
 use Rattle.scrub_kept.specs.Kept.{keptItems, kept}
 use Rattle.scrub_kept.specs.Written.{written}
@@ -71,6 +75,23 @@ room-is room w b h =
     (z, omega (arith, leb-true), omega (arith, leb-true)))
     (λ f. let i : refused R.NoRoom 0 ≡ fine b = simp (e, f) at h in absurd-eq (cc)))
     (λ e. let i : refused R.NoRoom 0 ≡ fine b = simp e at h in absurd-eq (cc))
+
+room-why : (room : ℕ) (w : List ℕ) (why : Refusal) (place : ℕ) → roomFor room w ≡ refused why place → R.NoRoom ≡ why
+unfolding roomFor
+room-why room w why place h =
+    split (leb (length w) room && leb (length w) packCap)
+    (λ e. let i : fine w ≡ refused why place = simp e at h in absurd-eq (cc))
+    (λ e. let i : refused R.NoRoom 0 ≡ refused why place = simp e at h in cc)
+
+-- by a good sheet no scrub is refused as SHEET
+pub never-sheet : (sheet s : List ℕ) (room : ℕ) (sh : Sheet) (why : Refusal) (place : ℕ) → Bytes s → sheetOf sheet ≡ fine sh
+    → scrubbed sheet s room ≡ refused why place → numberOf why ≡ 14 → ⊥
+unfolding scrubbed
+never-sheet sheet s room sh why place bytes named h is =
+    let into : Sheet → Read → Outcome (List ℕ) = λ x r. roomFor room (written (kept x (meant s r))) in
+    then-stops (reading s) (into sh) (sym (then-fine (λ (x : Sheet). andThen (reading s) (into x)) named) ∙ h)
+    (λ e. omega (arith, is, reading-reason s bytes why place e))
+    (λ r accepted e. omega (arith, is, ap numberOf (room-why room (written (kept sh (meant s r))) why place e)))
 
 -- where something is written, what the buffer held before is gone
 pub done-same : (before other : List ℕ) (o : Outcome (List ℕ)) → length before ≡ length other

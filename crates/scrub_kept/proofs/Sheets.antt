@@ -1,9 +1,9 @@
--- What bytes come to as a sheet: which keep none, which keep all, and what a count of 65,535 means.
+-- What bytes come to as a sheet: which keep none, which keep all, what a count of 65,535 means, and how many entries there are.
 use mathlib.Core.Path.{_≡_, refl, sym, ap, ap₂, subst, _∙_}
 use mathlib.Core.Bool.{true, false, _&&_}
 use mathlib.Core.List.{List, [], _∷_, _++_}
 use mathlib.Core.Logic.{_⊎_, inl, inr}
-use Prim.Native.Nat.{ℕ, _+_, _≤_}
+use Prim.Native.Nat.{ℕ, zero, suc, _+_, _*_, _≤_}
 use native.Mathlib.Omega.{arith}
 use lib.Dec.{leb, eqb}
 use lib.ListN.{length, drop, take-append-drop}
@@ -22,27 +22,62 @@ use Rattle.numbers.proofs.Big.{big-canonical}
 use Rattle.pack.specs.Said.{SaidName, label, number, SaidPayload, SaidItem, single, sync, Said}
 use Rattle.pack.specs.Reading.{Read, reading}
 use Rattle.pack.specs.Meaning.{meant}
-use Rattle.scrub_kept.specs.Sheet.{Sheet, everything, these, sheetCap, labelsGood, numbersGood, headerGood, sheetLabels, sheetNumbers, keepsAll, allSheet, sheetOf}
+use Rattle.scrub_kept.specs.Sheet.{Sheet, everything, these, sheetCap, labelsAt, numbersAt, labelsGood, numbersGood, headerGood, sheetLabels, sheetNumbers, keepsAll, allSheet, sheetOf, entriesOn}
 use Rattle.scrub_kept.specs.Kept.{keeps, keptPayloads, keptSync, keptItems, kept}
 use Rattle.scrub_kept.proofs.Sayable.{SayableItem, pack-sayable}
 
--- what holds of the sheets that name something, of the one that keeps all and of SHEET holds of whatever some bytes come to
-by-cases : (s : List ℕ) (P : Outcome Sheet → Type 0) → ((ls : List (List ℕ)) (ts : List ℕ) → P (fine (these ls ts))) → (keepsAll s ≡ true → P (fine everything))
+-- THE ENTRIES
+
+-- as many as are counted
+pub labels-long : (s : List ℕ) (at n : ℕ) → length (labelsAt s at n) ≡ n
+unfolding labelsAt
+labels-long s at zero = refl
+labels-long s at (suc n) = ap suc (labels-long s (at + 16) n)
+
+pub numbers-long : (s : List ℕ) (at n : ℕ) → length (numbersAt s at n) ≡ n
+unfolding numbersAt
+numbers-long s at zero = refl
+numbers-long s at (suc n) = ap suc (numbers-long s (at + 4) n)
+
+-- both counts of a good header are within the cap
+header-few : (s : List ℕ) → headerGood s ≡ true → (bigAt s 0 2 ≤ sheetCap) × (bigAt s 4 2 ≤ sheetCap)
+unfolding headerGood
+header-few s g =
+    let a = and-both (leb 8 (length s)) _ g in
+    let b = and-both (leb (bigAt s 0 2) sheetCap) _ (a .1) in
+    let c = and-both (leb (bigAt s 4 2) sheetCap) _ (b .1) in
+    (leb-true (bigAt s 0 2) sheetCap (b .0), leb-true (bigAt s 4 2) sheetCap (c .0))
+
+good-few : (s : List ℕ) → headerGood s ≡ true → entriesOn (these (sheetLabels s) (sheetNumbers s)) ≤ 64
+good-few s g =
+    let few = header-few s g in
+    omega (arith, few .0, few .1, labels-long s 8 (bigAt s 0 2), numbers-long s (8 + 16 * bigAt s 0 2) (bigAt s 4 2))
+
+-- what holds of the sheets of 64 entries at the most, of the one that keeps all and of SHEET holds of whatever some bytes come to
+by-cases : (s : List ℕ) (P : Outcome Sheet → Type 0) → ((ls : List (List ℕ)) (ts : List ℕ) → entriesOn (these ls ts) ≤ 64 → P (fine (these ls ts))) → (keepsAll s ≡ true → P (fine everything))
     → P (refused R.Sheet 0) → P (sheetOf s)
 unfolding sheetOf
 by-cases s P named all malformed =
     split (eqb (length s) 0)
-    (λ e. rw e (named [] []))
+    (λ e. rw e (named [] [] (omega arith)))
     (λ e. split (keepsAll s)
     (λ a. rw (e, a) (all a))
     (λ a. split (headerGood s && (labelsGood (sheetLabels s) && numbersGood (sheetNumbers s)))
-    (λ f. rw (e, a, f) (named (sheetLabels s) (sheetNumbers s)))
+    (λ f. rw (e, a, f) (named (sheetLabels s) (sheetNumbers s) (good-few s ((and-both (headerGood s) _ f) .0))))
     (λ f. rw (e, a, f) malformed)))
 
 -- whatever is wrong with a sheet, it is refused as SHEET, place 0
 pub sheet-why : (s : List ℕ) (why : Refusal) (place : ℕ) → sheetOf s ≡ refused why place → sheetOf s ≡ refused R.Sheet 0
 sheet-why s why place =
-    by-cases s (λ (o : Outcome Sheet). o ≡ refused why place → o ≡ refused R.Sheet 0) (λ ls ts h. absurd-eq (cc)) (λ a h. absurd-eq (cc)) (λ h. refl)
+    by-cases s (λ (o : Outcome Sheet). o ≡ refused why place → o ≡ refused R.Sheet 0) (λ ls ts few h. absurd-eq (cc)) (λ a h. absurd-eq (cc)) (λ h. refl)
+
+-- no sheet has more than 64 entries
+pub entries-few : (s : List ℕ) (sh : Sheet) → sheetOf s ≡ fine sh → entriesOn sh ≤ 64
+entries-few s sh =
+    by-cases s (λ (o : Outcome Sheet). o ≡ fine sh → entriesOn sh ≤ 64)
+    (λ ls ts few h. let is : these ls ts ≡ sh = (cc) in subst (λ (x : Sheet). entriesOn x ≤ 64) is few)
+    (λ a h. let is : everything ≡ sh = (cc) in subst (λ (x : Sheet). entriesOn x ≤ 64) is (omega arith))
+    (λ h. absurd-eq (cc))
 
 -- NONE
 
@@ -100,7 +135,7 @@ all-only s bytes h =
 -- the sheet that keeps all, and no other
 pub all-exactly : (s : List ℕ) → Bytes s → (sheetOf s ≡ fine everything → s ≡ allSheet) × (s ≡ allSheet → sheetOf s ≡ fine everything)
 all-exactly s bytes = (
-  by-cases s (λ (o : Outcome Sheet). o ≡ fine everything → s ≡ allSheet) (λ ls ts h. absurd-eq (cc)) (λ a h. all-only s bytes a) (λ h. absurd-eq (cc)),
+  by-cases s (λ (o : Outcome Sheet). o ≡ fine everything → s ≡ allSheet) (λ ls ts few h. absurd-eq (cc)) (λ a h. all-only s bytes a) (λ h. absurd-eq (cc)),
   λ e. ap sheetOf e ∙ all-is,
 )
 
@@ -140,15 +175,7 @@ counts-over s (inl h) few less = omega arith
 counts-over s (inr h) few less = omega arith
 
 header-bad : (s : List ℕ) → Counts s → headerGood s ≡ false
-unfolding headerGood
-header-bad s h =
-    split (headerGood s)
-    (λ g.
-    let a = and-both (leb 8 (length s)) _ g in
-    let b = and-both (leb (bigAt s 0 2) sheetCap) _ (a .1) in
-    let c = and-both (leb (bigAt s 4 2) sheetCap) _ (b .1) in
-    absurd (counts-over s h (leb-true (bigAt s 0 2) sheetCap (b .0)) (leb-true (bigAt s 4 2) sheetCap (c .0))))
-    (λ g. g)
+header-bad s h = split (headerGood s) (λ g. let few = header-few s g in absurd (counts-over s h (few .0) (few .1))) (λ g. g)
 
 -- in any sheet but the one that keeps all it is SHEET
 pub all-or-refused : (s : List ℕ) → Bytes s → (bigAt s 0 2 ≡ 65535) ⊎ (bigAt s 4 2 ≡ 65535) → (s ≡ allSheet → ⊥) → sheetOf s ≡ refused R.Sheet 0

@@ -7,7 +7,8 @@ use lib.Dec.{ltb, leb, eqb}
 use lib.ListN.{length, take, drop}
 use Rattle.runs.specs.Same.{among, listed}
 use Rattle.refusals.specs.declared.Refusal.the-variants as R
-use Rattle.refusals.specs.Outcomes.{Outcome, fine, refused}
+use Rattle.refusals.specs.declared.Answer.{Answer}
+use Rattle.refusals.specs.Outcomes.{Outcome, fine, refused, answered}
 use Rattle.numbers.specs.Big.{bigAt}
 use Rattle.pack.specs.Fixed.{utilityLabels}
 
@@ -75,3 +76,12 @@ sheetOf s =
     (cond (headerGood s && (labelsGood (sheetLabels s) && numbersGood (sheetNumbers s)))
     (fine (these (sheetLabels s) (sheetNumbers s)))
     (refused R.Sheet 0)))
+
+-- how many labels and tag numbers stand on a sheet: none on the one that keeps all
+abbrev pub entriesOn : Sheet → ℕ
+entriesOn everything = 0
+entriesOn (these ls ts) = length ls + length ts
+
+-- the judgement of a sheet alone: the count of its entries, or SHEET
+unfoldable pub sheetChecked : List ℕ → Answer
+sheetChecked s = answered entriesOn (sheetOf s)

@@ -3,3 +3,4 @@ pub mod Header
 pub mod Asking
 pub mod Short
 pub mod One
+pub mod Counting

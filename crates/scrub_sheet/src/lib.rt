@@ -5,9 +5,11 @@ ghost use Prim.Native.Nat.{ℕ, _+_, _*_, _<_, _≤_};
 ghost use lib.ListN.{length, take, drop, getD};
 ghost use Rattle.runs.specs.Same.{among, listed};
 ghost use Rattle.pack.specs.Said.{label, number};
-ghost use Rattle.scrub_kept.specs.Sheet.{labelsAt, numbersAt, labelsGood, numbersGood, headerGood, keepsAll};
+ghost use Rattle.scrub_kept.specs.Sheet.{labelsAt, numbersAt, labelsGood, numbersGood, headerGood, keepsAll, sheetChecked};
 ghost use Rattle.scrub_kept.specs.Kept.{keeps};
 ghost use Rattle.scrub_sheet.specs.Asked.{sheetAsked, asks, EntriesThere, Short};
+use refusals::Answer;
+use refusals::Refusal;
 
 // What a sheet asks for: all, nothing, or its labels and numbers by their counts; a malformed one is refused.
 pub enum Asked {
@@ -187,6 +189,22 @@ pub fn judge(s: &[u8]) -> Asked
     Asked::These {
         labels,
         numbers: count,
+    }
+}
+
+// Judges a sheet alone: how many labels and numbers stand on it, or SHEET. The counts of the sheet that keeps all count no entries.
+pub fn check(s: &[u8]) -> Answer
+    ensures { λ r. ⌜ r ≡ sheetChecked (now (s .entry)) ⌝ }
+{
+    let asked = judge(s);
+    match asked {
+        Asked::All => Answer::Done(0),
+        Asked::Nothing => Answer::Done(0),
+        Asked::These { labels, numbers } => Answer::Done(labels + numbers),
+        Asked::Refused => Answer::Refused {
+            why: Refusal::Sheet,
+            place: 0,
+        },
     }
 }
 
