@@ -58,9 +58,16 @@ extern "C" {
 
 /* The version of this header and of the library beside it; docs/VERSIONS.md says what its numbers tell. */
 #define BW_VERSION_MAJOR 0
-#define BW_VERSION_MINOR 2
+#define BW_VERSION_MINOR 3
 #define BW_VERSION_PATCH 0
-#define BW_VERSION "0.2.0"
+#define BW_VERSION "0.3.0"
+#define BW_VERSION_NUMBER (BW_VERSION_MAJOR * 10000 + BW_VERSION_MINOR * 100 + BW_VERSION_PATCH)
+
+/*
+ * The version of the archive that a program runs with, as BW_VERSION_NUMBER gives it. Where it is not the one that the
+ * program was compiled with, header and archive do not belong together.
+ */
+uint32_t bw_version(void);
 
 /* Caps. */
 #define BW_PACK_MAX 32768       /* bytes of a pack, read or written */
@@ -212,6 +219,18 @@ bw_answer bw_read(const uint8_t *pack, size_t pack_len, uint32_t *rows, size_t r
  */
 bw_answer bw_scrub(const uint8_t *sheet, size_t sheet_len, const uint8_t *pack, size_t pack_len, uint8_t *out,
                    size_t out_len);
+
+/*
+ * Judges a keep sheet alone, as bw_scrub does before it looks at the pack: a sheet that is refused here is refused by
+ * every scrub, and no scrub by a sheet that is accepted here is refused as SHEET.
+ *
+ * Success counts the entries that stand on the sheet, labels and tag numbers together: 64 at most. A sheet of 0 bytes
+ * and a header alone have none, and bw_keep_all has none either: whether a sheet keeps everything is told by comparing
+ * it with bw_keep_all, not by the count.
+ *
+ * Refusals: SHEET.
+ */
+bw_answer bw_sheet_check(const uint8_t *sheet, size_t sheet_len);
 
 /*
  * The kinds of PMD values, and the fields of a record with their widths in bits. A value has one record or more, with

@@ -2,7 +2,8 @@
 # Holds the pages to the tree: every path that the pages at the root and in docs/ name exists, every theorem that they name is stated
 # (in the file that follows it in brackets, or on the page of promises), every form of docs/FORMS.md stands at its line, every heading of
 # docs/DECISIONS.md is in its index, every must-fail edit says which wrong answer it is, the border between trusted and inner specifications
-# is the one that the promises draw, and every public function stands once in docs/GUARANTEES.md under the law that it has one outcome.
+# is the one that the promises draw, every public function stands once in docs/GUARANTEES.md under the law that it has one outcome, and the version
+# that is promised is the header's and the newest of CHANGELOG.md.
 # Ends with 'N passed, M failed'.
 set -uo pipefail
 cd "$(dirname "$0")/.." || exit 2
@@ -169,6 +170,19 @@ outcomes() {
     if grep -qF -- "$line" <<<"$section"; then told yes; else told no "docs/GUARANTEES.md: there are $line"; fi
 }
 
+# The three numbers of the version: those of the specification are the header's, and the header's text and the newest part of CHANGELOG.md say the same.
+version() {
+    local part held parts=()
+    for part in major minor patch; do
+        held=$(sed -nE "s/^#define BW_VERSION_${part^^} ([0-9]+)$/\1/p" include/ballastwren.h)
+        parts+=("$held")
+        if grep -qx "$part = $held" crates/ballastwren/specs/Version.antt; then told yes; else told no "crates/ballastwren/specs/Version.antt: $part is $held in the header"; fi
+    done
+    held=$(IFS=. && echo "${parts[*]}")
+    if grep -qxF "#define BW_VERSION \"$held\"" include/ballastwren.h; then told yes; else told no "include/ballastwren.h: BW_VERSION is not $held"; fi
+    if [[ $(grep -m 1 '^## ' CHANGELOG.md) == "## $held" ]]; then told yes; else told no "CHANGELOG.md does not begin with $held"; fi
+}
+
 paths
 theorems_with_files
 theorems_promised
@@ -177,5 +191,6 @@ border
 edits
 index
 outcomes
+version
 echo "$passed passed, $failed failed"
 [[ $failed -eq 0 ]]

@@ -1,7 +1,8 @@
 #!/usr/bin/env bash
-# Shows that the demands rest on the contracts of the exports. In a copy of the tree some exports promise what they do only where they succeed:
-# crates/ballastwren still meets that, and the page of promises still stands; but each function of crates/demands that calls such an export must be
-# refused, in its own proof, and every other must still be proved. No function there calls two exports that are weakened at once.
+# Shows that the demands rest on the contracts of the exports. In a copy of the tree some exports promise what they do only where they succeed, and in
+# another only where they refuse: crates/ballastwren still meets that, and the page of promises still stands; but each function of crates/demands that
+# calls such an export must be refused, in its own proof, and every other must still be proved. No function there calls two exports that are weakened
+# at once. bw_version, which cannot refuse, is left out.
 # Ends with 'N passed, M failed'.
 set -uo pipefail
 cd "$(dirname "$0")/.." || exit 2
@@ -17,14 +18,17 @@ check() {
     if "$@"; then passed=$((passed + 1)); else failed=$((failed + 1)); echo "weakened: $what"; fi
 }
 
+# exports: the name of each.
+exports() { sed -nE 's/^pub extern "C" fn ([a-z_]+)\(.*/\1/p' crates/ballastwren/src/lib.rt; }
+
 # contract EXPORT: the export's contract in the copy.
 contract() { sed -n "/^pub extern \"C\" fn $1(/,/^{/ p" "$copy/crates/ballastwren/src/lib.rt"; }
 
-# weaken EXPORT: its contract holds where the number that it tells is 0, and its proof is handed that fact.
+# weaken EXPORT WHERE: its contract holds where the number that it tells is so, and its proof is handed that fact.
 weaken() {
-    sed -i -E "/^pub extern \"C\" fn $1\(/,/^\{/ s/⌜ (.*) ⌝/⌜ (r .number ≡ 0 → \1) ⌝/" "$copy/crates/ballastwren/src/lib.rt"
-    sed -i -E 's/^(returns[-0-9]*) c =/\1 c done =/' "$copy/crates/ballastwren/proofs/$1/Proof.antt"
-    check "$1 has its contract still" grep -qF '⌜ (r .number ≡ 0 → ' <(contract "$1")
+    sed -i -E "/^pub extern \"C\" fn $1\(/,/^\{/ s/⌜ (.*) ⌝/⌜ ($2 → \1) ⌝/" "$copy/crates/ballastwren/src/lib.rt"
+    sed -i -E 's/^(returns[-0-9]*) c =/\1 c told =/' "$copy/crates/ballastwren/proofs/$1/Proof.antt"
+    check "$1 has its contract still" grep -qF "⌜ ($2 → " <(contract "$1")
 }
 
 # callers EXPORT...: the functions of crates/demands that call one of the exports.
@@ -48,22 +52,27 @@ judged() {
     done < <(sed -nE 's/^pub fn ([a-z_]+)\(.*/\1/p' crates/demands/src/lib.rt)
 }
 
-# refused EXPORT...: what becomes of the demands when these promise less.
+# refused WHERE EXPORT...: what becomes of the demands when these promise something there alone.
 refused() {
-    local log=$copy/log name
+    local log=$copy/log where=$1 name
+    shift
     rm -rf "$copy/crates"
     cp -r crates "$copy" || exit 2
-    for name in "$@"; do weaken "$name"; done
+    for name in "$@"; do weaken "$name" "$where"; done
     (cd "$copy" && rt check demands) >"$log" 2>&1
-    check "the weaker contracts are not met: $*" grep -q '^rt: ballastwren proved' "$log"
-    check "the page of promises does not stand: $*" grep -q '^rt: promises proved' "$log"
+    check "the weaker contracts are not met, $where: $*" grep -q '^rt: ballastwren proved' "$log"
+    check "the page of promises does not stand, $where: $*" grep -q '^rt: promises proved' "$log"
     judged "$(callers "$@")" "$log"
 }
 
 cp crates.txt "$copy" || exit 2
 if [[ -d target ]]; then cp -r target "$copy" || exit 2; fi
-refused bw_check bw_scrub bw_pmd_read bw_gain
-refused bw_read bw_pmd_write
+some=(bw_check bw_scrub bw_pmd_read bw_gain) others=(bw_read bw_sheet_check bw_pmd_write)
+check "an export is not tried" cmp -s <(printf '%s\n' "${some[@]}" "${others[@]}" bw_version | sort) <(exports | sort)
+for where in 'r .number ≡ 0' '(r .number ≡ 0 → ⊥)'; do
+    refused "$where" "${some[@]}"
+    refused "$where" "${others[@]}"
+done
 
 echo "$passed passed, $failed failed"
 [[ $failed -eq 0 ]]

@@ -31,7 +31,7 @@ int show_sheet(const struct options *options)
 
     if (!read_input(options->operands[0], bytes, sizeof bytes, &sheet))
         return TROUBLE;
-    answer = judge_sheet(sheet.bytes, sheet.length);
+    answer = bw_sheet_check(sheet.bytes, sheet.length);
     if (answer.number != BW_DONE)
         return refuse(sheet.name, answer, "byte");
     print_sheet(stdout, "", sheet.bytes, sheet.length);

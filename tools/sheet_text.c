@@ -119,7 +119,7 @@ int parse_sheet(const char *name, const uint8_t *text, size_t text_length, uint8
 
         if (wrong == NULL) {
             *length = lay_out(&entries, sheet);
-            if (judge_sheet(sheet, *length).number != BW_DONE)
+            if (bw_sheet_check(sheet, *length).number != BW_DONE)
                 wrong = why_refused(&entries, entries.label_count > labels);
         }
         if (wrong != NULL)

@@ -6,16 +6,6 @@
 #include "labels.h"
 #include "refusals.h"
 
-/* The archive judges sheets where it scrubs, and judges the sheet first: this pack has no items and is always good. */
-bw_answer judge_sheet(const uint8_t *bytes, size_t length)
-{
-    static const uint8_t empty[] = {0x06, 0x0E, 0x2B, 0x34, 0x02, 0x7F, 0x01, 0x01, 0x0C,
-                                    0x04, 0x01, 0x00, 0x00, 0x00, 0x00, 0x00, 0x00};
-    uint8_t out[64];
-
-    return bw_scrub(bytes, length, empty, sizeof empty, out, sizeof out);
-}
-
 void note_if_empty(const struct input *sheet)
 {
     if (sheet->length == 0)

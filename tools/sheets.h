@@ -10,9 +10,6 @@
 #include "ballastwren.h"
 #include "files.h"
 
-/* Whether the archive takes these bytes as a keep sheet. */
-bw_answer judge_sheet(const uint8_t *bytes, size_t length);
-
 /* Says of a sheet of 0 bytes that it keeps nothing: it may be one that was never made. */
 void note_if_empty(const struct input *sheet);
 
