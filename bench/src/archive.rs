@@ -14,6 +14,7 @@ extern "C" {
     fn bw_check(pack: *const u8, pack_len: usize) -> Answer;
     fn bw_read(pack: *const u8, pack_len: usize, rows: *mut u32, rows_len: usize) -> Answer;
     fn bw_scrub(sheet: *const u8, sheet_len: usize, pack: *const u8, pack_len: usize, out: *mut u8, out_len: usize) -> Answer;
+    fn bw_sheet_check(sheet: *const u8, sheet_len: usize) -> Answer;
     fn bw_pmd_read(kind: u32, value: *const u8, value_len: usize, numbers: *mut u32, numbers_len: usize) -> Answer;
     fn bw_pmd_write(kind: u32, numbers: *const u32, numbers_len: usize, out: *mut u8, out_len: usize) -> Answer;
 }
@@ -31,6 +32,11 @@ pub fn read(pack: &[u8], rows: &mut [u32]) -> Answer {
 pub fn scrub(sheet: &[u8], pack: &[u8], out: &mut [u8]) -> Answer {
     // SAFETY: the ranges are those of slices, and only the last, which nothing else holds, is written.
     unsafe { bw_scrub(sheet.as_ptr(), sheet.len(), pack.as_ptr(), pack.len(), out.as_mut_ptr(), out.len()) }
+}
+
+pub fn sheet_check(sheet: &[u8]) -> Answer {
+    // SAFETY: the range is that of a slice, and the function only reads it.
+    unsafe { bw_sheet_check(sheet.as_ptr(), sheet.len()) }
 }
 
 pub fn pmd_read(kind: u32, value: &[u8], numbers: &mut [u32]) -> Answer {

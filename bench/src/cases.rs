@@ -15,6 +15,11 @@ pub struct Scrub {
     pub pack: Vec<u8>,
 }
 
+pub struct Sheet {
+    pub name: &'static str,
+    pub bytes: Vec<u8>,
+}
+
 pub struct Value {
     pub name: &'static str,
     pub kind: u32,
@@ -44,12 +49,17 @@ fn payloads(count: usize, size: usize) -> Vec<u8> {
     (0..count).flat_map(|i| element(64 + (i % 32) as u8, &vec![i as u8; size])).collect()
 }
 
+/// A label with this last byte.
+fn label(last: u8) -> [u8; 16] {
+    [0x06, 0x0E, 0x2B, 0x34, 0x04, 0x01, 0x01, 0x0D, 0x0E, 0x09, 0x06, 0x07, 0x01, 0x01, 0x01, last]
+}
+
 /// A Config that maps tags 64 to 95 to labels which differ in their last bytes.
 fn config() -> Vec<u8> {
     let mut value = vec![0, 7];
     for i in 0..32 {
         value.push(64 + i);
-        value.extend([0x06, 0x0E, 0x2B, 0x34, 0x04, 0x01, 0x01, 0x0D, 0x0E, 0x09, 0x06, 0x07, 0x01, 0x01, 0x01, i]);
+        value.extend(label(i));
     }
     element(1, &value)
 }
@@ -69,17 +79,28 @@ pub fn packs() -> Vec<Pack> {
     packs
 }
 
-/// A sheet of numbers.
-fn sheet(numbers: impl Iterator<Item = u32>) -> Vec<u8> {
+/// A sheet of as many labels, which differ in their last byte, and of numbers.
+fn sheet(labels: u8, numbers: impl Iterator<Item = u32>) -> Vec<u8> {
+    let stands: Vec<u8> = (0..labels).flat_map(label).collect();
     let entries: Vec<u8> = numbers.flat_map(u32::to_be_bytes).collect();
-    [&[0, 0, 0, 8, 0, entries.len() as u8 / 4, 0, 8], entries.as_slice()].concat()
+    let [high, low] = (8 + stands.len() as u16).to_be_bytes();
+    [&[0, labels, 0, 8, 0, entries.len() as u8 / 4, high, low], stands.as_slice(), &entries].concat()
+}
+
+/// The sheet of 0 bytes, one of eight entries, and the longest.
+pub fn sheets() -> Vec<Sheet> {
+    vec![
+        Sheet { name: "0 bytes", bytes: vec![] },
+        Sheet { name: "4 labels and 4 numbers", bytes: sheet(4, 64..68) },
+        Sheet { name: "32 labels and 32 numbers", bytes: sheet(32, 64..96) },
+    ]
 }
 
 /// Each pack by three sheets: keep all, every other of the tags that its payloads have, none.
 pub fn scrubs() -> Vec<Scrub> {
     let packs = [("40 payloads of 12 bytes", payloads(40, 12)), ("60 payloads of 500 bytes", payloads(60, 500)), ("20 Syncs of two payloads", syncs(20))];
     let keep_all = vec![0xFF, 0xFF, 0, 8, 0xFF, 0xFF, 0, 8];
-    let sheets = [("all", keep_all), ("half", sheet((64..96).step_by(2))), ("none", sheet(0..0))];
+    let sheets = [("all", keep_all), ("half", sheet(0, (64..96).step_by(2))), ("none", sheet(0, 0..0))];
     let mut scrubs = Vec::new();
     for (name, body) in packs {
         for (kept, sheet) in &sheets {

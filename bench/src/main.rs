@@ -122,11 +122,22 @@ fn scrub(case: &cases::Scrub) {
     report(&name, times);
 }
 
+fn sheet_check(case: &cases::Sheet) {
+    let name = format!("sheet check, {}", case.name);
+    agree(&name, archive::sheet_check(&case.bytes), archive::told(reference::sheet_check(&case.bytes)));
+    let times = race(
+        || { let _ = black_box(archive::sheet_check(black_box(&case.bytes))); },
+        || { let _ = black_box(reference::sheet_check(black_box(&case.bytes))); },
+    );
+    report(&name, times);
+}
+
 fn main() {
     let packs = cases::packs();
     packs.iter().for_each(check);
     packs.iter().for_each(read);
     cases::scrubs().iter().for_each(scrub);
+    cases::sheets().iter().for_each(sheet_check);
     let values = cases::values();
     values.iter().for_each(pmd_read);
     values.iter().for_each(pmd_write);

@@ -28,7 +28,7 @@ pub use pack::{check, read, Item, Name, Payload, Reading};
 pub use pmd::{pmd_read, pmd_write};
 pub use rows::rows;
 pub use scrub::scrub;
-pub use sheet::Sheet;
+pub use sheet::{sheet_check, Sheet};
 
 /// What comes back instead of a success: the number of the reason and the place of the fault.
 #[derive(Clone, Copy, Debug, PartialEq, Eq)]

@@ -32,6 +32,14 @@ pub struct Names<'a> {
     one_byte: u128,
 }
 
+/// Judges a sheet alone. Returns how many labels and numbers stand on it.
+pub fn sheet_check(sheet: &[u8]) -> Result<usize, Refusal> {
+    match Sheet::read(sheet)? {
+        Sheet::All => Ok(0),
+        Sheet::Only(names) => Ok(names.labels.len() + names.numbers.len()),
+    }
+}
+
 impl<'a> Sheet<'a> {
     /// Reads a sheet; whatever is wrong with it is SHEET at 0.
     pub fn read(sheet: &'a [u8]) -> Result<Self, Refusal> {

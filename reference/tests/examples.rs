@@ -7,7 +7,7 @@ use reference::crc::crc;
 use reference::numbers::{length_size, read_length, read_tag, tag_size, write_length, write_tag};
 use reference::numbers::{Fault, MAX_TAG};
 use reference::pack::KEY;
-use reference::{check, gain, listing, pmd_read, pmd_write, read, rows, scrub};
+use reference::{check, gain, listing, pmd_read, pmd_write, read, rows, scrub, sheet_check};
 use reference::{Gain, Item, Name, Reason, Refusal};
 
 /// The sheet that keeps all.
@@ -28,6 +28,13 @@ fn refused(pack: &[u8], reason: Reason, place: usize) {
     assert_eq!(check(pack), Err(refusal));
     assert_eq!(read(pack).err(), Some(refusal));
     assert_eq!(rows(pack, &mut [0; 520]), Err(refusal));
+}
+
+/// Expects a sheet to be refused by a check, and by a scrub of an empty pack.
+#[track_caller]
+fn sheet_refused(sheet: &[u8]) {
+    assert_eq!(sheet_check(sheet), Err(Reason::Sheet.at(0)));
+    scrub_refused(sheet, &k("00"), 40, Reason::Sheet, 0);
 }
 
 /// Expects a refusal of a scrub that leaves the buffer alone.
@@ -478,12 +485,12 @@ fn refusals_of_sheets() {
     let pack = k("00");
     assert!(scrub(&good, &pack, &mut [0; 23]).is_ok());
     for size in (1..8).chain([good.len() - 1]) {
-        scrub_refused(&good[..size], &pack, 40, Reason::Sheet, 0);
+        sheet_refused(&good[..size]);
     }
     for (byte, value) in [(1, 33), (3, 9), (5, 33), (5, 4), (7, 41), (0, 1)] {
         let mut bad = good.clone();
         bad[byte] = value;
-        scrub_refused(&bad, &pack, 40, Reason::Sheet, 0);
+        sheet_refused(&bad);
     }
     let utility = "060E2B340401010D0404020300000000";
     let bad_sheets = [
@@ -507,10 +514,28 @@ fn refusals_of_sheets() {
         sheet(&["00000000000000000000000000000000"; 33], &[]),
     ];
     for bad in bad_sheets {
-        scrub_refused(&bad, &pack, 40, Reason::Sheet, 0);
+        sheet_refused(&bad);
     }
     let most = sheet(&[], &(4..36).collect::<Vec<u32>>());
     assert!(scrub(&most, &pack, &mut [0; 23]).is_ok());
+}
+
+#[test]
+fn entries_of_sheets() {
+    let numbers: Vec<u32> = (4..36).collect();
+    let labels: Vec<String> = (0..32).map(|last| format!("{last:032X}")).collect();
+    let labels: Vec<&str> = labels.iter().map(String::as_str).collect();
+    let counted = [
+        (vec![], 0),
+        (sheet(&[], &[]), 0),
+        (ALL.to_vec(), 0),
+        (sheet(&[LABEL_A], &[]), 1),
+        (sheet(&[LABEL_A, LABEL_B], &[4, 5, MAX_TAG]), 5),
+        (sheet(&labels, &numbers), 64),
+    ];
+    for (sheet, count) in counted {
+        assert_eq!(sheet_check(&sheet), Ok(count));
+    }
 }
 
 #[test]

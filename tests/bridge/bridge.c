@@ -20,7 +20,7 @@
 
 #include "ballastwren.h"
 
-enum { CHECK, READ, SCRUB, PMD_READ, PMD_WRITE, GAIN };
+enum { CHECK, READ, SCRUB, SHEET_CHECK, PMD_READ, PMD_WRITE, GAIN };
 enum { FAULT = 1, OVERWRITTEN = 2, INPUT_CHANGED = 4 };
 
 struct call {
@@ -115,6 +115,8 @@ static bw_answer call(const struct call *c)
         return bw_read(first.bytes, first.len, (uint32_t *)buffer.bytes, buffer.len / 4);
     case SCRUB:
         return bw_scrub(first.bytes, first.len, second.bytes, second.len, buffer.bytes, buffer.len);
+    case SHEET_CHECK:
+        return bw_sheet_check(first.bytes, first.len);
     case PMD_READ:
         return bw_pmd_read(c->scalar, first.bytes, first.len, (uint32_t *)buffer.bytes, buffer.len / 4);
     case PMD_WRITE:

@@ -260,6 +260,65 @@ static void scrubs(void)
 }
 
 typedef struct {
+    const char *name, *sheet;
+    uint64_t number, value;
+} sheet_case;
+
+/* What a scrub refuses as SHEET is tried from SCRUBS. */
+static const sheet_case SHEETS[] = {
+    {"0 bytes", "", BW_DONE, 0},
+    {"a header alone", "0000 0008 0000 0008", BW_DONE, 0},
+    {"keep all", ALL, BW_DONE, 0},
+    {"a label", "0001 0008 0000 0018" LABEL, BW_DONE, 1},
+    {"a label and two numbers", "0001 0008 0002 0018" LABEL "00000004 00000005", BW_DONE, 3},
+    {"the greatest number", "0000 0008 0001 0008 0FFFFFFF", BW_DONE, 1},
+    {"a number that is too great", "0000 0008 0001 0008 10000000", BW_SHEET, 0},
+    {"a label that is missing", "0002 0008 0000 0028 {11}16", BW_SHEET, 0},
+    {"33 labels", "0021 0008 0000 0218 {11}528", BW_SHEET, 0},
+    {"65,535 numbers and many bytes", "0000 0008 FFFF 0008 {05}69000", BW_SHEET, 0},
+};
+
+static bool try_sheet_check(const void *given)
+{
+    const sheet_case *c = given;
+    lent sheet = pack_of(c->sheet);
+    bool good = is(bw_sheet_check(sheet.bytes, sheet.len), c->number, c->value);
+    lent_back(&sheet);
+    return good;
+}
+
+/* The longest sheet, and the same with one byte less, one more, and its last number twice. */
+static bool try_longest_sheet(const void *unused)
+{
+    uint8_t bytes[BW_SHEET_MAX + 1] = {0};
+    (void)unused;
+    longest_sheet(bytes);
+    lent sheet = lent_to_read(bytes, BW_SHEET_MAX, side), longer = lent_to_read(bytes, BW_SHEET_MAX + 1, side);
+    bool good = is(bw_sheet_check(sheet.bytes, sheet.len), BW_DONE, BW_SHEET_LABELS_MAX + BW_SHEET_NUMBERS_MAX) &&
+                is(bw_sheet_check(sheet.bytes, sheet.len - 1), BW_SHEET, 0) &&
+                is(bw_sheet_check(longer.bytes, longer.len), BW_SHEET, 0);
+    bytes[BW_SHEET_MAX - 1]--;
+    lent twice = lent_to_read(bytes, BW_SHEET_MAX, side);
+    good = good && is(bw_sheet_check(twice.bytes, twice.len), BW_SHEET, 0);
+    lent_back(&sheet);
+    lent_back(&longer);
+    lent_back(&twice);
+    return good;
+}
+
+static void sheets(void)
+{
+    for (size_t i = 0; i < sizeof SHEETS / sizeof SHEETS[0]; i++)
+        test(try_sheet_check, &SHEETS[i], "bw_sheet_check", SHEETS[i].name);
+    for (size_t i = 0; i < sizeof SCRUBS / sizeof SCRUBS[0]; i++) {
+        sheet_case bad = {SCRUBS[i].name, SCRUBS[i].sheet, BW_SHEET, 0};
+        if (SCRUBS[i].number == BW_SHEET)
+            test(try_sheet_check, &bad, "bw_sheet_check", bad.name);
+    }
+    test(try_longest_sheet, NULL, "bw_sheet_check", "the longest sheet");
+}
+
+typedef struct {
     const char *name;
     uint32_t kind;
     const char *value;
@@ -432,6 +491,7 @@ static void empty_ranges(void)
     report(is(bw_scrub(NULL, 0, NULL, 0, NULL, 0), BW_SHORT, 0), "bw_scrub", "NULL thrice");
     report(is(bw_scrub(NULL, 0, pack, sizeof pack, NULL, 0), BW_NOROOM, 0), "bw_scrub", "NULL sheet and buffer");
     report(is(bw_scrub(NULL, 0, pack, sizeof pack, out, sizeof out), BW_DONE, 23), "bw_scrub", "NULL sheet");
+    report(is(bw_sheet_check(NULL, 0), BW_DONE, 0), "bw_sheet_check", "NULL");
     report(is(bw_pmd_read(BW_ESN, NULL, 0, NULL, 0), BW_BITS, 0), "bw_pmd_read", "NULL and NULL");
     report(is(bw_pmd_read(BW_ESN, value, sizeof value, NULL, 0), BW_NOROOM, 0), "bw_pmd_read", "NULL numbers");
     report(is(bw_pmd_write(BW_ESN, NULL, 0, NULL, 0), BW_BITS, 0), "bw_pmd_write", "NULL and NULL");
@@ -454,6 +514,14 @@ static void gains(void)
         good = good && got.number == BW_FIELD && got.muted == 0 && got.half_db == 0;
     }
     report(good, "bw_gain", "above 63");
+}
+
+static void versions(void)
+{
+    char text[32];
+    report(bw_version() == BW_VERSION_NUMBER, "bw_version", "the header's number");
+    snprintf(text, sizeof text, "%d.%d.%d", BW_VERSION_MAJOR, BW_VERSION_MINOR, BW_VERSION_PATCH);
+    report(strcmp(text, BW_VERSION) == 0, "BW_VERSION", "its three numbers");
 }
 
 static void names(void)
@@ -484,12 +552,14 @@ int main(int count, char **arguments)
     packs();
     test(try_rows, "K 29 0113 FFFE 40" LABEL "4003 616263 0207 FFFFFFFF 080178 0304 59747E70", "bw_read", "all rows");
     scrubs();
+    sheets();
     values();
     lists();
     test(try_longest, NULL, "bw_pmd_write and bw_pmd_read", "as much as fits 4,096 bytes");
     test(try_too_long, NULL, "bw_pmd_write", "a value above the cap");
     empty_ranges();
     gains();
+    versions();
     names();
     printf("%d passed, %d failed\n", passed, failed);
     return failed == 0 ? 0 : 1;

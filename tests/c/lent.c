@@ -100,6 +100,18 @@ static const char *digit_pair(const char *text, uint8_t *byte)
     return text + 2;
 }
 
+void longest_sheet(uint8_t *bytes)
+{
+    static const uint8_t header[8] = {0, 32, 0, 8, 0, 32, 2, 8};
+    memcpy(bytes, header, sizeof header);
+    uint8_t *labels = bytes + sizeof header, *numbers = labels + 32 * 16;
+    for (uint8_t i = 0; i < 32; i++) {
+        memset(labels + 16 * i, i, 16);
+        memset(numbers + 4 * i, 0, 3);
+        numbers[4 * i + 3] = (uint8_t)(96 + i);
+    }
+}
+
 const uint8_t *bytes_of(const char *text, size_t *len)
 {
     static const uint8_t key[16] = {0x06, 0x0E, 0x2B, 0x34, 0x02, 0x7F, 0x01, 0x01, 0x0C, 0x04, 0x01, 0, 0, 0, 0, 0};

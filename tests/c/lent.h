@@ -45,4 +45,7 @@ void lent_back(lent *range);
  */
 const uint8_t *bytes_of(const char *text, size_t *len);
 
+/* The longest keep sheet, BW_SHEET_MAX bytes: 32 labels and the tag numbers from 96 to 127. */
+void longest_sheet(uint8_t *bytes);
+
 #endif

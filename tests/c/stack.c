@@ -27,9 +27,11 @@ static void nothing(void) { }
 static void check(void) { bw_check(pack, pack_len); }
 static void read_rows(void) { bw_read(pack, pack_len, rows, BW_ROWS_MAX); }
 static void scrub(void) { bw_scrub(sheet, sheet_len, pack, pack_len, out, sizeof out); }
+static void sheet_check(void) { bw_sheet_check(sheet, sheet_len); }
 static void pmd_read(void) { bw_pmd_read(kind, out, value_len, numbers, BW_PMD_NUMBERS_MAX); }
 static void pmd_write(void) { value_len = bw_pmd_write(kind, numbers, number_count, out, sizeof out).value; }
 static void gain(void) { bw_gain(63); }
+static void version(void) { bw_version(); }
 
 static void on_painted_stack(void) { work(); }
 
@@ -103,7 +105,7 @@ static int failed, passed;
 
 static void tell(const char *function, size_t bytes)
 {
-    printf("%s  %-12s uses %zu bytes of stack\n", bytes <= BW_STACK ? "ok    " : "FAILED", function, bytes);
+    printf("%s  %-14s uses %zu bytes of stack\n", bytes <= BW_STACK ? "ok    " : "FAILED", function, bytes);
     if (bytes <= BW_STACK)
         passed++;
     else
@@ -150,8 +152,12 @@ int main(void)
     tell("bw_scrub", most_of_packs(scrub));
     load("FFFF 0008 FFFF 0008", sheet, &sheet_len);
     tell("bw_scrub", most_of_packs(scrub));
+    longest_sheet(sheet);
+    sheet_len = BW_SHEET_MAX;
+    tell("bw_sheet_check", most(sheet_check));
     pmd();
     tell("bw_gain", most(gain));
+    tell("bw_version", most(version));
     printf("%d passed, %d failed\n", passed, failed);
     return failed == 0 ? 0 : 1;
 }

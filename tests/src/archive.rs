@@ -9,6 +9,7 @@ pub enum Call {
     Check { pack: Vec<u8> },
     Read { pack: Vec<u8>, rows: Vec<u32> },
     Scrub { sheet: Vec<u8>, pack: Vec<u8>, out: Vec<u8> },
+    SheetCheck { sheet: Vec<u8> },
     PmdRead { kind: u32, value: Vec<u8>, numbers: Vec<u32> },
     PmdWrite { kind: u32, numbers: Vec<u32>, out: Vec<u8> },
     Gain { gain: u32 },
@@ -104,9 +105,10 @@ fn encode(call: &Call, guard_after: bool, batch: &mut Vec<u8>) {
         Call::Check { pack } => (0, 0, pack.clone(), &[][..], vec![]),
         Call::Read { pack, rows } => (1, 0, pack.clone(), &[][..], four_each(rows)),
         Call::Scrub { sheet, pack, out } => (2, 0, sheet.clone(), &pack[..], out.clone()),
-        Call::PmdRead { kind, value, numbers } => (3, *kind, value.clone(), &[][..], four_each(numbers)),
-        Call::PmdWrite { kind, numbers, out } => (4, *kind, four_each(numbers), &[][..], out.clone()),
-        Call::Gain { gain } => (5, *gain, vec![], &[][..], vec![]),
+        Call::SheetCheck { sheet } => (3, 0, sheet.clone(), &[][..], vec![]),
+        Call::PmdRead { kind, value, numbers } => (4, *kind, value.clone(), &[][..], four_each(numbers)),
+        Call::PmdWrite { kind, numbers, out } => (5, *kind, four_each(numbers), &[][..], out.clone()),
+        Call::Gain { gain } => (6, *gain, vec![], &[][..], vec![]),
     };
     let sizes = [first.len(), second.len(), buffer.len()].map(|size| size as u32);
     let header = [function, scalar, u32::from(guard_after), sizes[0], sizes[1], sizes[2]];
@@ -153,6 +155,7 @@ pub fn shown(call: &Call) -> String {
         Call::Scrub { sheet, pack, out } => {
             format!("bw_scrub\n  sheet {}\n  pack {}\n  room for {} bytes", hex(sheet), hex(pack), out.len())
         }
+        Call::SheetCheck { sheet } => format!("bw_sheet_check\n  sheet {}", hex(sheet)),
         Call::PmdRead { kind, value, numbers } => {
             format!("bw_pmd_read\n  kind {kind}\n  value {}\n  room for {} numbers", hex(value), numbers.len())
         }

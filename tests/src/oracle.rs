@@ -15,6 +15,7 @@ pub fn outcome(call: &Call) -> Outcome {
             let mut out = out.clone();
             told(reference::scrub(sheet, pack, &mut out), out)
         }
+        Call::SheetCheck { sheet } => told(reference::sheet_check(sheet), vec![]),
         Call::PmdRead { kind, value, numbers } => {
             let mut numbers = numbers.clone();
             told(reference::pmd_read(*kind, value, &mut numbers), four_each(&numbers))

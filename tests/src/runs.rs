@@ -49,7 +49,7 @@ impl Tally {
             .iter()
             .map(|count| if *count == 0 { format!("{:>8}", ".") } else { format!("{count:>8}") })
             .collect();
-        format!("{function:<13}{counts}")
+        format!("{function:<15}{counts}")
     }
 }
 
@@ -59,7 +59,7 @@ const NAMES: [&str; 20] = [
 ];
 
 fn heading() -> String {
-    NAMES.iter().fold(format!("{:<13}", "answered"), |line, name| format!("{line}{name:>8}"))
+    NAMES.iter().fold(format!("{:<15}", "answered"), |line, name| format!("{line}{name:>8}"))
 }
 
 /// Compares archive and reference on `count` calls, and panics at the first difference.

@@ -77,6 +77,12 @@ fn scrub_call(random: &mut Random) -> Call {
     Call::Scrub { sheet, pack, out: random.bytes(room) }
 }
 
+fn sheet_check_call(random: &mut Random) -> Call {
+    let (said, _) = any_pack(random);
+    let sheet = if random.percent(50) { any_sheet_bytes(random, &said) } else { bad_sheet(random, &said) };
+    Call::SheetCheck { sheet }
+}
+
 fn pmd_read_call(random: &mut Random) -> Call {
     let kind = any_kind(random);
     // Now and then a value of another kind than it is read as.
@@ -116,6 +122,12 @@ fn bw_read_agrees() {
 fn bw_scrub_agrees() {
     let tally = compare(seed() + 2, inputs(INPUTS), |random, _| scrub_call(random));
     require("bw_scrub", &tally, &[1, 2, 3, 4, 5, 6, 7, 8, 9, 10, 11, 12, 13, 14, 15]);
+}
+
+#[test]
+fn bw_sheet_check_agrees() {
+    let tally = compare(seed() + 6, inputs(INPUTS), |random, _| sheet_check_call(random));
+    require("bw_sheet_check", &tally, &[14]);
 }
 
 #[test]
@@ -174,19 +186,24 @@ fn header(numbers: [u16; 4]) -> Vec<u8> {
     numbers.iter().flat_map(|number| number.to_be_bytes()).collect()
 }
 
-/// Every header of 8 bytes that differs from one of the two in one of its numbers at most: only those two are sheets.
+/// Every header of 8 bytes that differs from one of the two in one of its numbers at most: only those two are sheets,
+/// for a scrub and for a check.
 #[test]
 fn headers_around_all_and_none_agree() {
-    let around = |_: &mut Random, index: usize| {
+    let around = |index: usize| {
         let mut numbers = ALONE[index >> 18];
         numbers[index >> 16 & 3] = index as u16;
-        scrub_of_one(header(numbers))
+        header(numbers)
     };
-    let tally = compare(0, 8 << 16, around);
-    assert_eq!((tally.of(0), tally.of(14)), (8, (8 << 16) - 8));
+    let scrubbed = compare(0, 8 << 16, |_, index| scrub_of_one(around(index)));
+    let checked = compare(0, 8 << 16, |_, index| Call::SheetCheck { sheet: around(index) });
+    for tally in [scrubbed, checked] {
+        assert_eq!((tally.of(0), tally.of(14)), (8, (8 << 16) - 8));
+    }
 }
 
-/// Sheets of a few bytes, and of as many as 65,535 entries take: 0 bytes keep none, and no sheet but one keeps all.
+/// Sheets of a few bytes, and of as many as 65,535 entries take: 0 bytes keep none, and no sheet but one keeps all. A
+/// check counts no entries on those that are good.
 #[test]
 fn one_sheet_keeps_all() {
     let mut sheets = vec![(vec![], DROPPED), (header(ALONE[0]), DROPPED), (header(ALONE[1]), KEPT)];
@@ -211,5 +228,7 @@ fn one_sheet_keeps_all() {
     let mut archive = Archive::start();
     for ((sheet, expected), call) in sheets.iter().zip(&calls) {
         assert_eq!(archive.outcome(call).answer, *expected, "sheet {sheet:02X?}");
+        let check = archive.outcome(&Call::SheetCheck { sheet: sheet.clone() });
+        assert_eq!(check.answer, Answer { number: expected.number, value: 0 }, "sheet {sheet:02X?}");
     }
 }

@@ -44,7 +44,8 @@ fn calls(input: &[u8]) -> Vec<Call> {
         3 | 4 => {
             let (sheet, body) = rest.split_at(room.min(rest.len()));
             let out = vec![0xA5; 40 + body.len()];
-            vec![Call::Scrub { sheet: sheet.to_vec(), pack: pack(choice, body), out }]
+            let scrub = Call::Scrub { sheet: sheet.to_vec(), pack: pack(choice, body), out };
+            vec![Call::SheetCheck { sheet: sheet.to_vec() }, scrub]
         }
         5 | 6 => {
             let read = |kind| Call::PmdRead { kind, value: rest.to_vec(), numbers: vec![77; 4 * room] };
