@@ -64,8 +64,8 @@ extern "C" {
 #define BW_VERSION_NUMBER (BW_VERSION_MAJOR * 10000 + BW_VERSION_MINOR * 100 + BW_VERSION_PATCH)
 
 /*
- * The version of the archive that a program runs with, as BW_VERSION_NUMBER gives it. Where it is not the one that the
- * program was compiled with, header and archive do not belong together.
+ * The version of the library that a program runs with, as BW_VERSION_NUMBER gives it. Where it differs from the one that
+ * the program was compiled with by more than the last number, the two do not belong together.
  */
 uint32_t bw_version(void);
 

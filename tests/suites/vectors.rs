@@ -76,9 +76,12 @@ fn line(pack: &[u8], row: &[u32]) -> String {
     }
 }
 
-/// A sheet shows what it is by what it keeps of a pack that has all its names and another.
+/// A sheet shows what it is by its check, and by what it keeps of a pack that has all its names and another.
 fn judge_sheet(archive: &mut Archive, sheet: Vec<u8>, results: &str, at: &str) {
     let named = names(results);
+    let checked = outcome(archive.outcome(&Call::SheetCheck { sheet: sheet.clone() }).answer);
+    let counted = if results.starts_with("refused") { results.to_string() } else { format!("ok {}", named.len()) };
+    assert_eq!(checked, counted, "{at}");
     let foreign = Payload { name: Name::Number(268_000_001), value: vec![1] };
     let payloads = named.iter().map(|&name| Payload { name, value: vec![] }).chain([foreign]).take(64);
     let said = Said { offset: 0, items: payloads.map(Item::Single).collect() };
