@@ -60,7 +60,7 @@ fn told_answer(a: Answer) -> Told
 pub extern "C" fn bw_check(pack: &[u8]) -> Told
     ensures { λ r. ⌜ r ≡ toldOf (checked (now (pack .entry))) ⌝ }
 {
-    let a = pack_read::check(pack);
+    let a = pack_check::check(pack);
     told_answer(a)
 }
 

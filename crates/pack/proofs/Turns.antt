@@ -1,6 +1,6 @@
 -- One turn of each definition that goes through a pack: the mappings of a Config, the payloads inside a Sync, the items; and its start.
 use Prim.Native.Nat.{ℕ, zero, suc, _+_, _-_, _<_, _≤_}
-use mathlib.Core.Path.{_≡_, refl, ap, _∙_}
+use mathlib.Core.Path.{_≡_, refl, sym, ap, _∙_}
 use mathlib.Core.List.{List, [], _∷_, _++_}
 use mathlib.Core.Bool.{true, false, cond}
 use native.Mathlib.Omega.{arith}
@@ -10,12 +10,13 @@ use borrow.Author.Tests.{le-ltb, lt-ltb, le-leb, lt-leb, ltb-false}
 use Rattle.runs.proofs.Cases.{split, absurd-eq}
 use Rattle.refusals.specs.declared.Refusal.the-variants as R
 use Rattle.refusals.specs.Outcomes.{Outcome, fine, refused, andThen}
+use Rattle.refusals.proofs.Outcomes.{then-then}
 use Rattle.numbers.specs.declared.TagRead.the-variants as T
 use Rattle.numbers.specs.Tags.{tagAt}
 use Rattle.pack.specs.Config.{Mapping, tagsOf, labelsOf, clashes, mappingAt, mappingsFrom}
 use Rattle.pack.specs.Payloads.{innerAt, caseFound, payload, innersFrom}
 use Rattle.pack.specs.Items.{one, many, Body, itemAt, caseStep, someInside, insideOf, syncHead, crcGood, with, itemsFrom}
-use Rattle.pack.specs.Reading.{valueStart}
+use Rattle.pack.specs.Reading.{valueStart, Opening, openingAt, readFrom, reading}
 use Rattle.pack.specs.declared.Found.{Found}
 use Rattle.pack.specs.declared.Payload.{Payload}
 use Rattle.pack.specs.declared.Step.{Step}
@@ -112,3 +113,11 @@ pub start-small : (s : List ℕ) (n : ℕ) → valueStart s ≡ fine n → lengt
 unfolding valueStart
 start-small s n h =
     split (ltb 32768 (length s)) (λ e. let i : _≡_ {A = Outcome ℕ} (refused R.Big 0) (fine n) = simp e at h in absurd-eq (cc)) (λ e. ltb-false _ _ e)
+
+-- how a pack opens, and the reading by it
+abbrev pub opening : List ℕ → Outcome Opening
+opening s = andThen (valueStart s) (openingAt s)
+
+pub reading-opens : (s : List ℕ) → reading s ≡ andThen (opening s) (readFrom s)
+unfolding reading
+reading-opens s = sym (then-then (valueStart s) (openingAt s) (readFrom s))

@@ -178,7 +178,7 @@ pub fn first_at(s: &[u8], at: usize) -> First
     if s[at] != 1 {
         return First::Other;
     }
-    let found = pack::payload_at(s, at);
+    let found = pack_item::payload_at(s, at);
     match found {
         Found::Wrong(_) => First::Other,
         Found::Whole {

@@ -4,8 +4,9 @@ use mathlib.Core.List.{List, [], _++_, append-assoc, append-nil}
 use Prim.Native.Nat.{ℕ, _+_, _-_, _<_, _≤_}
 use native.Mathlib.Omega.{arith}
 use lib.ListN.{length, take, drop, length-append, length-drop, drop-of-length-le}
-use lib.Seq.{take-at, take-all, length-take-le}
+use lib.Seq.{take-at, take-all}
 use Rattle.runs.specs.Digits.{digits, Bytes}
+use Rattle.runs.proofs.Stands.{part-length}
 use Rattle.refusals.specs.declared.Refusal.{Refusal}
 use Rattle.refusals.specs.declared.Refusal.the-variants as R
 use Rattle.numbers.specs.Tags.{tagBytes}
@@ -75,7 +76,7 @@ module _ (s : List ℕ) (b : Bytes s) where
 
   -- a value that is found has its length
   pub value-length : (at t v l : ℕ) → payloadAt s at ≡ Whole t v l → length (take l (drop v s)) ≡ l
-  value-length at t v l e = let x = payload-within s at t v l e in length-take-le l (drop v s) (simp length-drop (omega arith))
+  value-length at t v l e = part-length s v l (payload-within s at t v l e .inside)
 
   -- why a payload with the tag t is no item, in the words of the layout
   pub bad-item : {why : Refusal} (at used t v l : ℕ) → payloadAt s at ≡ Whole t v l → BadItem s used t v l why → NoItemAfter s (drop at s) used why
@@ -118,7 +119,7 @@ module _ (s : List ℕ) (b : Bytes s) where
       let value : take l (drop v s) ≡ groupBytes o duration (r .elements) ++ r .left =
       group-value s b v l (omega arith) h ∙ ap (λ (y : List ℕ). digits 256 2 o ++ (digits 256 2 duration ++ y)) (r .stands)
       ∙ sym (regrouped (digits 256 2 o) (digits 256 2 duration) (elementsBytes (r .elements)) (r .left)) in
-      let size : length (take (l - 4) (drop (v + 4) s)) ≡ l - 4 = length-take-le (l - 4) (drop (v + 4) s) (simp length-drop (omega arith)) in
+      let size : length (take (l - 4) (drop (v + 4) s)) ≡ l - 4 = part-length s (v + 4) (l - 4) (omega arith) in
       let inside = ap length (r .stands) ∙ length-append (elementsBytes (r .elements)) (r .left) in
       record {
         rest = rest;

@@ -1,5 +1,3 @@
-pub mod Inside
-pub mod Coming
 pub mod One
 pub mod Outlines
 mod Slots

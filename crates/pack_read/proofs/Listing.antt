@@ -26,8 +26,8 @@ use Rattle.pack.specs.declared.Found.the-variants.{Whole, Wrong}
 use Rattle.pack.specs.declared.Step.the-variants as S
 use Rattle.pack.proofs.Payloads.{inner-within, plain-fits, open-fits}
 use Rattle.pack.proofs.Slots.{slots-count}
-use Rattle.pack_read.proofs.Inside.{WithinSync, SomeWithin, inside-begins, inside-ends, inside-stops, inside-on, inside-done, inside-refused}
-use Rattle.pack_read.proofs.Coming.{Coming, coming-begins, coming-plain, sync-on, inside-part, inside-enough}
+use Rattle.pack.proofs.Inside.{WithinSync, SomeWithin, inside-begins, inside-ends, inside-stops, inside-on, inside-done, inside-refused}
+use Rattle.pack.proofs.Coming.{Coming, coming-begins, coming-plain, sync-on, inside-part, inside-enough}
 use Rattle.pack_slots.specs.Slots.{slotAt, slotsIn, slotNumbers, Exact}
 use Rattle.pack_slots.proofs.Laws.{exact-put, slots-none, exact-none}
 use Rattle.pack_read.specs.Shown.{outlineOf, assembled}

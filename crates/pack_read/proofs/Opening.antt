@@ -10,29 +10,26 @@ use Rattle.runs.proofs.Cases.{split, absurd-eq}
 use Rattle.refusals.specs.declared.Refusal.{Refusal}
 use Rattle.refusals.specs.declared.Answer.{Answer}
 use Rattle.refusals.specs.declared.Answer.the-variants as A
-use Rattle.refusals.specs.Outcomes.{Outcome, fine, refused, andThen, answered}
+use Rattle.refusals.specs.Outcomes.{Outcome, fine, refused, andThen}
 use Rattle.numbers.specs.Big.{bigAt}
 use Rattle.pack.specs.Config.{Mapping, tagsOf, configMaps}
-use Rattle.pack.specs.Items.{Body, itemsFrom, countOf}
-use Rattle.pack.specs.Reading.{Read, valueStart, Opening, openingAt, readFrom, reading, checked}
+use Rattle.pack.specs.Items.{Body, itemsFrom}
+use Rattle.pack.specs.Reading.{Read, valueStart, Opening, openingAt, readFrom, reading}
 use Rattle.pack.specs.Slots.{shown}
-use Rattle.refusals.proofs.Lent.{answers, refused-was, done-was}
-use Rattle.refusals.proofs.Outcomes.{then-fine, then-refused, then-then}
-use Rattle.pack.proofs.Turns.{start-small}
+use Rattle.refusals.proofs.Lent.{refused-was, done-was}
+use Rattle.refusals.proofs.Outcomes.{then-fine, then-refused}
+use Rattle.pack.proofs.Turns.{start-small, opening, reading-opens}
 use Rattle.pack_config.specs.First.{firstAt}
 use Rattle.pack_config.specs.Tables.{Filled, Knows, Empty, Tables, mapsOf, MapsRead}
 use Rattle.pack_config.specs.declared.First.the-variants as F
 use Rattle.pack_config.proofs.Tables.{tables-none, column-is, column-filled}
 use Rattle.pack_config.proofs.Openings.{opens-without, opens-with, maps-short}
 use Rattle.pack_read.specs.Shown.{outlineOf, Outlined}
-use Rattle.pack_read.specs.Steps.{counted, shownBody, BodyTold, openedOf, opensWith, Opens}
+use Rattle.pack_read.specs.Steps.{shownBody, BodyTold, openedOf, opensWith, Opens}
 use Rattle.pack_read.specs.declared.Outline.{Outline}
 use Rattle.pack_read.specs.declared.Opened.{Opened}
 use Rattle.pack_read.specs.declared.Opened.the-variants as O
 use Rattle.pack_read.proofs.Outlines.{outlined-empty}
-
-abbrev opening : List ℕ → Outcome Opening
-opening s = andThen (valueStart s) (openingAt s)
 
 module _ (s : List ℕ) {tags places known : List ℕ} where
   stops : {why : Refusal} {p : ℕ} → opening s ≡ refused why p → Tables [] tags places known → Opens (opening s) (O.Refused why p) tags places known
@@ -91,11 +88,6 @@ unfolding andThen
 small s (fine at) e h = start-small s at e
 small s (refused why p) e h = absurd-eq (cc)
 
--- the reading, by the opening
-whole : (s : List ℕ) → reading s ≡ andThen (opening s) (readFrom s)
-unfolding reading
-whole s = sym (then-then (valueStart s) (openingAt s) (readFrom s))
-
 shown-by : (x : Opening) {tags places known : List ℕ} → Tables (x .mappings) tags places known → (o : Outcome Body)
     → shownBody (x .offset) (length (x .mappings)) tags places o ≡ shown (andThen o (λ b. fine (record { offset = x .offset; mappings = x .mappings; body = b })))
 unfolding shownBody shown andThen
@@ -105,7 +97,7 @@ shown-by x t (refused why p) = refl
 
 module _ (s : List ℕ) {r : Opened} {tags places known : List ℕ} (g : Opens (opening s) r tags places known) where
   whole-refused : {why : Refusal} {p : ℕ} → r ≡ O.Refused why p → reading s ≡ refused why p
-  whole-refused e = whole s ∙ then-refused (readFrom s) (told-refused (opening s) (sym e ∙ g .told))
+  whole-refused e = reading-opens s ∙ then-refused (readFrom s) (told-refused (opening s) (sym e ∙ g .told))
 
   pub outlined-refused : {why : Refusal} {p : ℕ} {o : Outline} {slots : List ℕ} → r ≡ O.Refused why p → o ≡ outlineOf (shown (refused why p)) → slots ≡ replicate 512 0
       → Outlined s o slots tags places
@@ -143,7 +135,7 @@ module _ (s : List ℕ) {r : Opened} {tags places known : List ℕ} (g : Opens (
         ap₂ (λ (y z : ℕ). shownBody y z tags places (itemsFrom (length s) s (take m tags) n 0)) a b
         ∙ ap₂ (λ (u : List ℕ) (y : ℕ). shownBody (x .offset) (length (x .mappings)) tags places (itemsFrom (length s) s u y 0)) (tags-are x t b) d
         ∙ shown-by x t (itemsFrom (length s) s (tagsOf (x .mappings)) (x .next) 0)
-        ∙ ap shown (sym (whole s ∙ then-fine (readFrom s) q)))
+        ∙ ap shown (sym (reading-opens s ∙ then-fine (readFrom s) q)))
 
     -- the items are read, or refused and the arrays emptied
     module _ {o : Outline} {slots : List ℕ} (b : BodyTold f m tags (itemsFrom (length s) s (take m tags) n 0) o slots) where
@@ -153,26 +145,3 @@ module _ (s : List ℕ) {r : Opened} {tags places known : List ℕ} (g : Opens (
       pub outlined-stops : {why : Refusal} {p : ℕ} {us vs ws : List ℕ} → o .answer ≡ A.Refused why p → (us ≡ replicate 512 0) × (vs ≡ replicate 32 0) × (ws ≡ replicate 32 0)
           → Outlined s o us vs ws
       outlined-stops h none = outlined-empty (b .told places ∙ ap outlineOf whole-from) h none
-
--- THE ANSWER ALONE
-
-body-count : (x : Opening) (o : Outcome Body)
-    → answered counted o ≡ answered (λ (r : Read). countOf (r .body .parts)) (andThen o (λ b. fine (record { offset = x .offset; mappings = x .mappings; body = b })))
-unfolding answered andThen
-body-count x (fine b) = refl
-body-count x (refused why p) = refl
-
-module _ (s : List ℕ) where
-  pub checked-stops : {why : Refusal} {p : ℕ} → opening s ≡ refused why p → A.Refused why p ≡ checked s
-  unfolding checked
-  checked-stops e = answers _ (whole s ∙ then-refused (readFrom s) e) refl
-
-  -- a count of the items from where they start on, which holds for any tags
-  pub checked-next : {o : Opening} {n : ℕ} {a : Answer} → opening s ≡ fine o → n ≡ o .next
-      → ((ts : List ℕ) → a ≡ answered counted (itemsFrom (length s) s ts n 0)) → a ≡ checked s
-  unfolding checked readFrom
-  checked-next {o} e next h =
-      h (tagsOf (o .mappings))
-      ∙ ap (λ (k : ℕ). answered counted (itemsFrom (length s) s (tagsOf (o .mappings)) k 0)) next
-      ∙ body-count o (itemsFrom (length s) s (tagsOf (o .mappings)) (o .next) 0)
-      ∙ sym (ap (answered (λ (r : Read). countOf (r .body .parts))) (whole s ∙ then-fine (readFrom s) e))

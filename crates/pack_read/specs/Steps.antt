@@ -1,18 +1,19 @@
--- Inner. What the steps of a reading and of a check make.
+-- Inner. What the steps of a reading make.
 use mathlib.Core.Path.{_≡_}
 use mathlib.Core.List.{List, [], map}
 use mathlib.Core.Bool.{Bool}
-use Prim.Native.Nat.{ℕ, _+_, _≤_}
+use Prim.Native.Nat.{ℕ, _≤_}
 use lib.ListN.{length}
 use lib.Seq.{sets}
 use Rattle.refusals.specs.declared.Answer.{Answer}
 use Rattle.refusals.specs.declared.Answer.the-variants as A
-use Rattle.refusals.specs.Outcomes.{Outcome, fine, refused, answered}
+use Rattle.refusals.specs.Outcomes.{Outcome, fine, refused}
 use Rattle.pack.specs.Fixed.{itemCap}
 use Rattle.pack.specs.Payloads.{innersFrom}
 use Rattle.pack.specs.Config.{Mapping}
 use Rattle.pack.specs.Items.{Body, countOf}
 use Rattle.pack.specs.Reading.{Opening}
+use Rattle.pack.specs.Inside.{InsideTold}
 use Rattle.pack.specs.Slots.{slot, slots, blank, padded, shown}
 use Rattle.pack.specs.declared.Payload.{Payload}
 use Rattle.pack.specs.declared.Item.the-variants as I
@@ -23,19 +24,6 @@ use Rattle.pack_read.specs.Shown.{outlineOf, assembled}
 use Rattle.pack_read.specs.declared.Outline.{Outline}
 use Rattle.pack_read.specs.declared.Opened.{Opened}
 use Rattle.pack_read.specs.declared.Opened.the-variants as O
-
--- how many items and payloads there are
-abbrev pub counted : Body → ℕ
-counted b = countOf (b .parts)
-
--- where the items start
-abbrev pub nextOf : Opening → ℕ
-nextOf o = o .next
-
--- the count of the payloads of an inside q, with the `used` before them; fuel, if it is enough, does not matter
-pub record InsideTold (q tags : List ℕ) (base used : ℕ) (r : Answer) : Type 0 where
-  pub told : (k : ℕ) → length q ≤ k → r ≡ answered (λ (xs : List Payload). used + length xs) (innersFrom k q tags base 0 used)
-  pub few : (n : ℕ) → r ≡ A.Done n → n ≤ itemCap
 
 -- the payloads of an inside q are told, and stand in the slots from `used` on
 pub record InsideRead (q tags : List ℕ) (base used : ℕ) (r : Answer) (before after : List ℕ) : Type 0 where

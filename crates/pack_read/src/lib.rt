@@ -1,17 +1,15 @@
-// The reading of a pack, into lent arrays or by value; and the stretches of the pack that it speaks of.
+// The reading of a pack, into lent arrays or by value.
 ghost use mathlib.Core.Path.{_≡_};
-ghost use mathlib.Core.List.{List};
-ghost use Prim.Native.Nat.{ℕ, _+_, _≤_};
+ghost use Prim.Native.Nat.{_+_, _≤_};
 ghost use lib.ListN.{length, take, replicate};
-ghost use Rattle.refusals.specs.Outcomes.{answered, Outcome, andThen};
-ghost use Rattle.pack.specs.Items.{crcGood, syncHead, itemsFrom};
-ghost use Rattle.pack.specs.Reading.{configOf, openingAt, checked, valueStart, reading};
+ghost use Rattle.refusals.specs.Outcomes.{Outcome, andThen};
+ghost use Rattle.pack.specs.Items.{syncHead, itemsFrom};
+ghost use Rattle.pack.specs.Reading.{openingAt, valueStart, reading};
 ghost use Rattle.pack.specs.Slots.{blank, shown};
 ghost use Rattle.pack_read.specs.Shown.{outlineOf, Outlined};
-ghost use Rattle.pack_read.specs.Steps.{counted, nextOf, InsideTold, InsideRead, doneOf, BodyTold, Opens};
+ghost use Rattle.pack_read.specs.Steps.{InsideRead, doneOf, BodyTold, Opens};
 ghost use Rattle.pack.specs.Fixed.{mappingCap};
 ghost use Rattle.pack.specs.Payloads.{payload};
-ghost use Rattle.pack.specs.Meaning.{stretchIn, valueOf, labelAt};
 ghost use Rattle.pack_config.specs.Tables.{Filled, Knows, Empty};
 ghost use Rattle.pack_slots.specs.Slots.{slotsIn, Exact};
 use pack::Found;
@@ -25,94 +23,6 @@ use pack::Step;
 use pack_config::First;
 use refusals::Answer;
 use refusals::Refusal;
-
-// Whether the CRC whose value stands at `at` is that of the pack up to `at`.
-fn crc_good(s: &[u8], at: usize) -> bool
-    requires { ⌜ at + 4 ≤ length (now s) ⌝ }
-    ensures { λ r. ⌜ r ≡ crcGood (now (s .entry)) at ⌝ }
-{
-    numbers::be32(s, at) == crc::crc(&s[0..at])
-}
-
-// The payloads of the inside of a Sync, which stands at `base` of the pack: how many items and payloads there are with them, where `used` came
-// before.
-fn count_inside(q: &[u8], base: usize, used: usize) -> Answer
-    requires { ⌜ (used ≤ 64) × (base + length (now q) ≤ 32768) ⌝ }
-    ensures { λ r. ⌜ ((tags : List ℕ) → InsideTold (now (q .entry)) tags base used r) ⌝ }
-{
-    let mut n = used;
-    let mut at: usize = 0;
-    while at < q.len() {
-        let found = pack::inner_at(q, at, n);
-        match found {
-            Found::Wrong(why) => {
-                return pack::refuse(why, base + at);
-            }
-            Found::Whole {
-                tag: _,
-                value_start,
-                value_len,
-            } => {
-                n += 1;
-                at = value_start + value_len;
-            }
-        }
-    }
-    Answer::Done(n)
-}
-
-// The items of the pack from `from` on.
-fn count_items(s: &[u8], from: usize) -> Answer
-    requires { ⌜ length (now s) ≤ 32768 ⌝ }
-    ensures { λ r. ⌜ ((tags : List ℕ) → r ≡ answered counted (itemsFrom (length (now (s .entry))) (now (s .entry)) tags from 0)) ⌝ }
-{
-    let mut n: usize = 0;
-    let mut at = from;
-    while at < s.len() {
-        let step = pack::item_at(s, at, n);
-        match step {
-            Step::Bad(why) => {
-                return pack::refuse(why, at);
-            }
-            Step::Close { value_start } => {
-                if crc_good(s, value_start) {
-                    return Answer::Done(n);
-                }
-                return pack::refuse(Refusal::Crc, at);
-            }
-            Step::Plain {
-                tag: _,
-                value_start,
-                value_len,
-            } => {
-                n += 1;
-                at = value_start + value_len;
-            }
-            Step::Open {
-                value_start,
-                value_len,
-            } => {
-                let base = value_start + 4;
-                let end = value_start + value_len;
-                let used = n + 1;
-                let inside = count_inside(&s[base..end], base, used);
-                match inside {
-                    Answer::Refused { why, place } => {
-                        return Answer::Refused { why, place };
-                    }
-                    Answer::Done(k) => {
-                        if k == used {
-                            return pack::refuse(Refusal::Sync, at);
-                        }
-                        n = k;
-                        at = end;
-                    }
-                }
-            }
-        }
-    }
-    Answer::Done(n)
-}
 
 // How a pack opens: its offset, how many mappings it has and where its items start, or the refusal.
 pub enum Opened {
@@ -229,7 +139,7 @@ fn read_inside(
     let mut k = used;
     let mut j: usize = 0;
     while j < q.len() {
-        let found = pack::inner_at(q, j, k);
+        let found = pack_item::inner_at(q, j, k);
         match found {
             Found::Wrong(why) => {
                 return pack::refuse(why, base + j);
@@ -274,13 +184,13 @@ fn read_items(
     let mut n: usize = 0;
     let mut at = from;
     while at < s.len() {
-        let step = pack::item_at(s, at, n);
+        let step = pack_item::item_at(s, at, n);
         match step {
             Step::Bad(why) => {
                 return stopped(why, at);
             }
             Step::Close { value_start } => {
-                if crc_good(s, value_start) {
+                if pack_item::crc_good(s, value_start) {
                     return done(n, offset, true, mapped);
                 }
                 return stopped(Refusal::Crc, at);
@@ -376,62 +286,6 @@ fn open(pack: &[u8], tags: &mut [u32; 32], places: &mut [u32; 32], known: &mut [
     }
 }
 
-// Where the items start after the Config at `at`. The tables of mappings are made for a pack that has one alone.
-fn after_config(s: &[u8], at: usize, value_start: usize, value_len: usize) -> Answer
-    requires { ⌜ («value_start» + «value_len» ≤ length (now s)) × (length (now s) ≤ 32768) ⌝ }
-    ensures { λ r. ⌜ r ≡ answered nextOf (configOf (now (s .entry)) at «value_start» «value_len») ⌝ }
-{
-    let mut tags = [0u32; 32];
-    let mut places = [0u32; 32];
-    let mut known = [0u8; 128];
-    let maps = pack_config::config(
-        s,
-        at,
-        value_start,
-        value_len,
-        &mut tags,
-        &mut places,
-        &mut known,
-    );
-    match maps {
-        Answer::Refused { why, place } => Answer::Refused { why, place },
-        Answer::Done(_) => Answer::Done(value_start + value_len),
-    }
-}
-
-// Where the items of a pack's value at `at` start.
-fn items_start(s: &[u8], at: usize) -> Answer
-    requires { ⌜ length (now s) ≤ 32768 ⌝ }
-    ensures { λ r. ⌜ r ≡ answered nextOf (openingAt (now (s .entry)) at) ⌝ }
-{
-    let first = pack_config::first_at(s, at);
-    match first {
-        First::Other => Answer::Done(at),
-        First::Config {
-            value_start,
-            value_len,
-        } => after_config(s, at, value_start, value_len),
-    }
-}
-
-// The answer alone: how many items and inner payloads the pack has, or the refusal and its place. Nothing is stored of the items, so a check is
-// faster than a reading.
-pub fn check(pack: &[u8]) -> Answer
-    ensures { λ r. ⌜ r ≡ checked (now (pack .entry)) ⌝ }
-{
-    let start = pack::value_start(pack);
-    match start {
-        Answer::Refused { why, place } => Answer::Refused { why, place },
-        Answer::Done(at) => {
-            let items = items_start(pack, at);
-            match items {
-                Answer::Refused { why, place } => Answer::Refused { why, place },
-                Answer::Done(from) => count_items(pack, from),
-            }
-        }
-    }
-}
-
 // Empties the slots and the tables of a pack that is refused.
 fn clear(slots: &mut [u32; 512], tags: &mut [u32; 32], places: &mut [u32; 32])
     ensures { λ _. ⌜ (now (slots .exit) ≡ replicate 512 0) × (now (tags .exit) ≡ replicate mappingCap 0) × (now (places .exit) ≡ replicate mappingCap 0) ⌝ }
@@ -507,32 +361,4 @@ pub fn read(pack: &[u8]) -> Reading
         labels: places,
         items,
     }
-}
-
-// The stretch of so many bytes from `start` on: no bytes, if it does not lie in the pack.
-fn stretch(pack: &[u8], start: usize, len: usize) -> &[u8]
-    ensures { λ r. ⌜ now r ≡ stretchIn (now (pack .entry)) start len ⌝ }
-{
-    if pack.len() < start {
-        return &pack[0..0];
-    }
-    if pack.len() - start < len {
-        return &pack[0..0];
-    }
-    let end = start + len;
-    &pack[start..end]
-}
-
-// A payload's value: the very stretch of the pack that it was read from.
-pub fn value(pack: &[u8], x: Payload) -> &[u8]
-    ensures { λ r. ⌜ now r ≡ valueOf (now (pack .entry)) x ⌝ }
-{
-    stretch(pack, x.value_start as usize, x.value_len as usize)
-}
-
-// The label of a mapping, by its place in the pack.
-pub fn label(pack: &[u8], place: u32) -> &[u8]
-    ensures { λ r. ⌜ now r ≡ labelAt (now (pack .entry)) place ⌝ }
-{
-    stretch(pack, place as usize, 16)
 }

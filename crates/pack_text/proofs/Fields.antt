@@ -1,25 +1,14 @@
 -- A line, written field by field: what is left of it, and the last field ends it.
 use mathlib.Core.Path.{_≡_, sym, ap}
-use mathlib.Core.List.{List, [], _∷_, _++_, append-assoc, append-nil}
+use mathlib.Core.List.{List, [], _∷_, _++_, append-assoc}
 use Prim.Native.Nat.{ℕ, _+_, _<_, _≤_}
 use native.Mathlib.Omega.{arith}
 use lib.ListN.{length, length-append}
 use Rattle.runs.specs.Over.{Wrote}
-use Rattle.runs.proofs.Writing.{Writing, writing-as, writing-begins, writing-run, writing-done}
+use Rattle.runs.proofs.Writing.{Writing, writing-as, writing-begins, writing-run, writing-last}
+use Rattle.figures.specs.Fields.{FieldPut}
 use Rattle.pack_text.specs.Text.{line}
-use Rattle.pack_text.specs.Fields.{sizes, FieldPut}
-
--- all that is left is written
-pub writing-last : {xs whole us vs left : List ℕ} {a at n : ℕ} → Writing xs a whole us at left → Wrote us at left n vs → Wrote xs a whole n vs
-writing-last {left = left} w p = writing-done (writing-run left [] (writing-as (sym (append-nil left)) w) p)
-
--- a field with the byte after it: before it is written, and when it is
-pub field-begins : (xs : List ℕ) (at : ℕ) (text : List ℕ) (end : ℕ) → at + length text < length xs
-    → Writing xs at (text ++ (end ∷ [])) xs at (text ++ (end ∷ []))
-field-begins xs at text end h = writing-begins xs at (text ++ (end ∷ [])) (omega (arith, length-append text (end ∷ [])))
-
-pub field-put : {xs us : List ℕ} {at n : ℕ} (text : List ℕ) (end : ℕ) → Wrote xs at (text ++ (end ∷ [])) n us → FieldPut xs at text end n us
-field-put text end w = record { next = omega (arith, w .next, length-append text (end ∷ [])); wrote = w }
+use Rattle.pack_text.specs.Fields.{sizes}
 
 -- a line is as long as its fields
 pub line-size : (left : List (List ℕ)) → 0 < length left → length (line left) ≡ sizes left
@@ -49,4 +38,4 @@ module _ {xs whole us : List ℕ} {a at : ℕ} where
 
   pub last-field : {x vs : List ℕ} {n : ℕ} → Fields xs a whole us at (x ∷ []) → FieldPut us at x 10 n vs → Wrote xs a whole n vs
   unfolding line
-  last-field w p = writing-last (w .writing) (p .wrote)
+  last-field {x} w p = writing-last (x ++ (10 ∷ [])) (w .writing) (p .wrote)

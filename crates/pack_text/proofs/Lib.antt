@@ -1,4 +1,3 @@
-pub mod Figures
 pub mod Fields
 pub mod Slots
 pub mod Shown

@@ -28,12 +28,12 @@ use Rattle.pack.specs.declared.Item.{Item}
 use Rattle.pack.specs.declared.Item.the-variants.{Single, Sync, Inner}
 use Rattle.pack.specs.declared.Slot.{Slot}
 use Rattle.pack_layout.proofs.Bounds.{NameFits, ItemLies, PartLies, slots-lie, reading-bounds}
-use Rattle.pack_text.specs.Figures.{decimal, integer}
+use Rattle.figures.specs.Figures.{decimal, integer}
 use Rattle.pack_text.specs.Text.{line, packFields, syncFields, numberFields, labelFields, namedLine, partLines, refusedFields, listing}
 use Rattle.pack_text.specs.Slots.{itemLine, slotLines}
 use Rattle.pack_text.proofs.Fields.{line-size}
 use Rattle.pack_text.proofs.Shown.{lines-of}
-use Rattle.pack_text.proofs.Figures.{length-decimal, size-most, decimal-short, signed-low, signed-high, length-hex}
+use Rattle.figures.proofs.Figures.{length-decimal, size-most, decimal-short, signed-low, signed-high, length-hex}
 
 decimal-most : (n : ℕ) → length (decimal n) ≤ 20
 decimal-most n = omega (arith, length-decimal n, size-most n)

@@ -12,7 +12,7 @@ use Rattle.pack.specs.Fixed.{key}
 use Rattle.pack.specs.Payloads.{valueFound, tagFound, payloadAt, innerAt, nameFrom, innersFrom}
 use Rattle.pack.specs.Items.{judged, itemAt, someInside, itemsFrom, countOf}
 use Rattle.pack.specs.Reading.{valueStart, openingAt, readFrom, reading}
-use Rattle.pack_text.specs.Figures.{sizeFrom, decimal, integer}
+use Rattle.figures.specs.Figures.{sizeFrom, decimal, integer}
 use Rattle.pack_text.specs.Text.{line, namedLine, payloadLines, partLines, listing}
 
 unfoldable pub example : List ℕ

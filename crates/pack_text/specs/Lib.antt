@@ -1,4 +1,3 @@
-pub mod Figures
 pub mod Text
 pub mod Fields
 pub mod Slots

@@ -14,7 +14,7 @@ use Rattle.pack.specs.declared.Name.{Name}
 use Rattle.pack.specs.declared.Name.the-variants.{Label, Number}
 use Rattle.pack.specs.declared.Payload.{Payload}
 use Rattle.pack.specs.declared.Head.{Head}
-use Rattle.pack_text.specs.Figures.{decimal, integer, hex}
+use Rattle.figures.specs.Figures.{decimal, integer, hex}
 
 -- a line of fields: a space between two, a newline at the end
 unfoldable pub line : List (List ℕ) → List ℕ

@@ -1,14 +1,12 @@
 // The text of a reading: a line for the pack and one for each item and inner payload, or one line for a refusal, written into a lent buffer.
 ghost use mathlib.Core.Path.{_≡_};
-ghost use Prim.Native.Nat.{_+_, _≤_, _<_, _^_};
+ghost use Prim.Native.Nat.{_+_, _≤_};
 ghost use lib.ListN.{length, take};
 ghost use Rattle.runs.specs.Over.{Wrote};
-ghost use Rattle.numbers.specs.Big.{signed};
 ghost use Rattle.pack.specs.Reading.{reading as Reading·reading};
 ghost use Rattle.pack.specs.Slots.{shown};
-ghost use Rattle.pack_text.specs.Figures.{sizeFrom, decimal, integer, hexDigit, hex};
 ghost use Rattle.pack_text.specs.Text.{line, packFields, syncFields, numberFields, labelFields, refusedFields, payloadLine, listing};
-ghost use Rattle.pack_text.specs.Fields.{sizes, FieldPut};
+ghost use Rattle.pack_text.specs.Fields.{sizes};
 ghost use Rattle.pack_text.specs.Slots.{itemLine, slotLines, NameStands, ItemStands, SlotsStand};
 use pack::Head;
 use pack::Item;
@@ -18,127 +16,18 @@ use pack::Reading;
 use pack::Slot;
 use refusals::Answer;
 
-// The powers of ten below 2^64.
-const POWERS: [u64; 20] = [
-    1,
-    10,
-    100,
-    1000,
-    10000,
-    100000,
-    1000000,
-    10000000,
-    100000000,
-    1000000000,
-    10000000000,
-    100000000000,
-    1000000000000,
-    10000000000000,
-    100000000000000,
-    1000000000000000,
-    10000000000000000,
-    100000000000000000,
-    1000000000000000000,
-    10000000000000000000,
-];
-
-fn power(k: usize) -> u64
-    requires { ⌜ k < 20 ⌝ }
-    ensures { λ r. ⌜ r ≡ 10 ^ k ⌝ }
-{
-    POWERS[k]
-}
-
-// How many decimal digits `n` takes.
-fn decimal_size(n: u64) -> usize
-    ensures { λ r. ⌜ r ≡ sizeFrom 1 19 n ⌝ }
-{
-    let mut size: usize = 1;
-    while size < 20 {
-        if n < power(size) {
-            return size;
-        }
-        size += 1;
-    }
-    size
-}
-
-// The capital hex digit of `d`.
-fn hex_digit(d: u8) -> u8
-    requires { ⌜ d < 16 ⌝ }
-    ensures { λ r. ⌜ r ≡ hexDigit d ⌝ }
-{
-    if d < 10 { 48 + d } else { 55 + d }
-}
-
-// Each of the next four writes a field and the byte after it, a space or a newline, and answers the place after that.
-// The caller has seen that they fit.
-
-fn put_word(out: &mut [u8], at: usize, word: &[u8], end: u8) -> usize
-    requires { ⌜ at + length (now word) < length (now out) ⌝ }
-    ensures { λ r. ⌜ FieldPut (now (out .entry)) at (now (word .entry)) end r (now (out .exit)) ⌝ }
-{
-    let next = runs::copy(out, at, word);
-    out[next] = end;
-    next + 1
-}
-
-fn put_decimal(out: &mut [u8], at: usize, n: u64, end: u8) -> usize
-    requires { ⌜ at + length (decimal n) < length (now out) ⌝ }
-    ensures { λ r. ⌜ FieldPut (now (out .entry)) at (decimal n) end r (now (out .exit)) ⌝ }
-{
-    let mut next = at;
-    let mut left = decimal_size(n);
-    while left > 0 {
-        left -= 1;
-        out[next] = (48 + n / power(left) % 10) as u8;
-        next += 1;
-    }
-    out[next] = end;
-    next + 1
-}
-
-// The 16 bits of `n` are a number in two's complement.
-fn put_signed(out: &mut [u8], at: usize, n: u16, end: u8) -> usize
-    requires { ⌜ at + length (integer (signed n)) < length (now out) ⌝ }
-    ensures { λ r. ⌜ FieldPut (now (out .entry)) at (integer (signed n)) end r (now (out .exit)) ⌝ }
-{
-    if n < 32768 {
-        return put_decimal(out, at, n as u64, end);
-    }
-    out[at] = b'-';
-    put_decimal(out, at + 1, 65536 - n as u64, end)
-}
-
-fn put_hex(out: &mut [u8], at: usize, bytes: &[u8], end: u8) -> usize
-    requires { ⌜ at + length (hex (now bytes)) < length (now out) ⌝ }
-    ensures { λ r. ⌜ FieldPut (now (out .entry)) at (hex (now (bytes .entry))) end r (now (out .exit)) ⌝ }
-{
-    let mut next = at;
-    let mut i: usize = 0;
-    while i < bytes.len() {
-        let byte = bytes[i];
-        out[next] = hex_digit(byte / 16);
-        out[next + 1] = hex_digit(byte % 16);
-        next += 2;
-        i += 1;
-    }
-    out[next] = end;
-    next + 1
-}
-
 // The line of the pack: its offset, the count of items and inner payloads, and whether a CRC stood there.
 fn put_pack(out: &mut [u8], at: usize, offset: u16, count: usize, crc: bool) -> usize
     requires { ⌜ at + sizes (packFields offset count crc) ≤ length (now out) ⌝ }
     ensures { λ r. ⌜ Wrote (now (out .entry)) at (line (packFields offset count crc)) r (now (out .exit)) ⌝ }
 {
-    let offset_at = put_word(out, at, b"pack", b' ');
-    let count_at = put_signed(out, offset_at, offset, b' ');
-    let crc_at = put_decimal(out, count_at, count as u64, b' ');
+    let offset_at = figures::put_word(out, at, b"pack", b' ');
+    let count_at = figures::put_signed(out, offset_at, offset, b' ');
+    let crc_at = figures::put_decimal(out, count_at, count as u64, b' ');
     if crc {
-        put_word(out, crc_at, b"good", b'\n')
+        figures::put_word(out, crc_at, b"good", b'\n')
     } else {
-        put_word(out, crc_at, b"none", b'\n')
+        figures::put_word(out, crc_at, b"none", b'\n')
     }
 }
 
@@ -151,11 +40,11 @@ fn put_sync(out: &mut [u8], at: usize, head: Head) -> usize
     let offset = head.offset;
     let duration = head.duration;
     let inside = head.inside;
-    let start_at = put_word(out, at, b"sync", b' ');
-    let offset_at = put_decimal(out, start_at, start as u64, b' ');
-    let duration_at = put_signed(out, offset_at, offset, b' ');
-    let inside_at = put_decimal(out, duration_at, duration as u64, b' ');
-    put_decimal(out, inside_at, inside as u64, b'\n')
+    let start_at = figures::put_word(out, at, b"sync", b' ');
+    let offset_at = figures::put_decimal(out, start_at, start as u64, b' ');
+    let duration_at = figures::put_signed(out, offset_at, offset, b' ');
+    let inside_at = figures::put_decimal(out, duration_at, duration as u64, b' ');
+    figures::put_decimal(out, inside_at, inside as u64, b'\n')
 }
 
 // The line of a payload that is known by its tag number.
@@ -163,10 +52,10 @@ fn put_number(out: &mut [u8], at: usize, start: u32, tag: u32, len: u32) -> usiz
     requires { ⌜ at + sizes (numberFields start tag len) ≤ length (now out) ⌝ }
     ensures { λ r. ⌜ Wrote (now (out .entry)) at (line (numberFields start tag len)) r (now (out .exit)) ⌝ }
 {
-    let start_at = put_word(out, at, b"number", b' ');
-    let tag_at = put_decimal(out, start_at, start as u64, b' ');
-    let len_at = put_decimal(out, tag_at, tag as u64, b' ');
-    put_decimal(out, len_at, len as u64, b'\n')
+    let start_at = figures::put_word(out, at, b"number", b' ');
+    let tag_at = figures::put_decimal(out, start_at, start as u64, b' ');
+    let len_at = figures::put_decimal(out, tag_at, tag as u64, b' ');
+    figures::put_decimal(out, len_at, len as u64, b'\n')
 }
 
 // The line of a payload that is known by its label.
@@ -174,10 +63,10 @@ fn put_label(out: &mut [u8], at: usize, start: u32, label: &[u8], len: u32) -> u
     requires { ⌜ at + sizes (labelFields start (now label) len) ≤ length (now out) ⌝ }
     ensures { λ r. ⌜ Wrote (now (out .entry)) at (line (labelFields start (now (label .entry)) len)) r (now (out .exit)) ⌝ }
 {
-    let start_at = put_word(out, at, b"label", b' ');
-    let label_at = put_decimal(out, start_at, start as u64, b' ');
-    let len_at = put_hex(out, label_at, label, b' ');
-    put_decimal(out, len_at, len as u64, b'\n')
+    let start_at = figures::put_word(out, at, b"label", b' ');
+    let label_at = figures::put_decimal(out, start_at, start as u64, b' ');
+    let len_at = figures::put_hex(out, label_at, label, b' ');
+    figures::put_decimal(out, len_at, len as u64, b'\n')
 }
 
 // The line of a refusal.
@@ -185,9 +74,9 @@ fn put_refused(out: &mut [u8], at: usize, number: u32, place: usize) -> usize
     requires { ⌜ at + sizes (refusedFields number place) ≤ length (now out) ⌝ }
     ensures { λ r. ⌜ Wrote (now (out .entry)) at (line (refusedFields number place)) r (now (out .exit)) ⌝ }
 {
-    let number_at = put_word(out, at, b"refused", b' ');
-    let place_at = put_decimal(out, number_at, number as u64, b' ');
-    put_decimal(out, place_at, place as u64, b'\n')
+    let number_at = figures::put_word(out, at, b"refused", b' ');
+    let place_at = figures::put_decimal(out, number_at, number as u64, b' ');
+    figures::put_decimal(out, place_at, place as u64, b'\n')
 }
 
 // The line of a payload. `places` says where the labels of the mappings stand in the pack.

@@ -39,7 +39,9 @@ use Rattle.pack.specs.Meaning.{meant, valueOf, labelAt}
 use Rattle.pack.specs.declared.Payload.{Payload}
 use Rattle.pack.specs.declared.Reading.{Reading}
 use Rattle.pack.proofs.Fuel as fuel
+use Rattle.pack_check.proofs.One as checker
 use Rattle.pack_read.proofs.One as reader
+use Rattle.pack_value.proofs.One as values
 use Rattle.pack_text.specs.Text.{listing}
 use Rattle.pack_text.proofs.One as listings
 use Rattle.pack_layout.specs.Layout.{Entry, noConfig, entriesLaid, Description, layout}
@@ -159,16 +161,16 @@ pub reading-one : (s : List ℕ) (a b : Reading) → a ≡ shown (reading s) →
 reading-one = reader.reading-one
 
 pub check-one : (s : List ℕ) (a b : Answer) → a ≡ checked s → b ≡ checked s → a ≡ b
-check-one = reader.check-one
+check-one = checker.check-one
 
 pub check-is-read : (s : List ℕ) → checked s ≡ shown (reading s) .answer
-check-is-read = reader.check-is-read
+check-is-read = checker.check-is-read
 
 pub value-one : (s : List ℕ) (x : Payload) (a b : List ℕ) → a ≡ valueOf s x → b ≡ valueOf s x → a ≡ b
-value-one = reader.value-one
+value-one = values.value-one
 
 pub label-one : (s : List ℕ) (place : ℕ) (a b : List ℕ) → a ≡ labelAt s place → b ≡ labelAt s place → a ≡ b
-label-one = reader.label-one
+label-one = values.label-one
 
 pub list-one : (pack out : List ℕ) {a b : ℕ} {us vs : List ℕ} → Wrote out 0 (listing pack (reading pack)) a us → Wrote out 0 (listing pack (reading pack)) b vs
     → (a ≡ b) × (us ≡ vs)

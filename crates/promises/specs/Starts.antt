@@ -21,7 +21,7 @@ pub record Stands (s : List ℕ) (t start v l : ℕ) : Type 0 where
   pub fits : FormFits form (length (stretch s v l))
   pub bytes : drop start s ≡ element t form (stretch s v l) ++ drop (v + l) s
 
--- a payload: its name is that of its tag, by the mapped tags, and `value` of crates/pack_read gives the stretch that is meant
+-- a payload: its name is that of its tag, by the mapped tags, and `value` of crates/pack_value gives the stretch that is meant
 pub record PayloadStands (s tags : List ℕ) (x : Payload) : Type 0 where
   pub tag : ℕ
   pub named : x .name ≡ nameOf tags tag
@@ -38,7 +38,7 @@ abbrev pub PartStands : List ℕ → List ℕ → Part → Type 0
 PartStands s tags (one x) = PayloadStands s tags x
 PartStands s tags (many h xs) = SyncStands s h × Each (PayloadStands s tags) xs
 
--- all of a reading: its parts, and the labels of its mappings, which `label` of crates/pack_read gives
+-- all of a reading: its parts, and the labels of its mappings, which `label` of crates/pack_value gives
 pub record AllStand (s : List ℕ) (r : Read) : Type 0 where
   pub parts : Each (PartStands s (tagsOf (r .mappings))) (r .body .parts)
   pub labels : Each (λ (m : Mapping). labelAt s (m .place) ≡ m .stands) (r .mappings)

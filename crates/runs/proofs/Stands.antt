@@ -1,6 +1,6 @@
 -- What stands at a place of a list. Laws about what is read at a place take the rest of the list as `drop at s ≡ ys ++ zs`,
 -- so that none of them has to be moved along the list.
-use Prim.Native.Nat.{ℕ, zero, suc, _+_, _<_, _≤_}
+use Prim.Native.Nat.{ℕ, zero, suc, _+_, _-_, _<_, _≤_}
 use mathlib.Core.Path.{_≡_, refl, sym, ap, _∙_}
 use mathlib.Core.List.{List, [], _∷_, _++_}
 use native.Mathlib.Omega.{arith}
@@ -36,9 +36,14 @@ stands-within (suc o) w zero l h = absurd (let z : suc o + w ≤ 0 = h in omega 
 stands-within (suc o) w (suc m) [] h = refl
 stands-within (suc o) w (suc m) (x ∷ xs) h = stands-within o w m xs (omega arith)
 
--- the n elements from `at` on: how many they are, and the m before them
+-- the n elements from `at` on: how many they are
 pub part-length : {A : Type 0} (s : List A) (at n : ℕ) → at + n ≤ length s → length (take n (drop at s)) ≡ n
 part-length s at n h = length-take-le n (drop at s) (simp length-drop (omega arith))
 
+-- as a part that is lent
+pub part-lent : {A : Type 0} (s : List A) (at n : ℕ) → take (at + n - at) (drop at s) ≡ take n (drop at s)
+part-lent s at n = ap (λ (k : ℕ). take k (drop at s)) (let z : at + n - at ≡ n = omega arith in z)
+
+-- and the m before them
 pub part-append : {A : Type 0} (s : List A) (at m n : ℕ) → take (m + n) (drop at s) ≡ take m (drop at s) ++ take n (drop (at + m) s)
 part-append s at m n = take-add m n (drop at s) ∙ ap (λ (l : List _). take m (drop at s) ++ take n l) (drop-drop m at s)

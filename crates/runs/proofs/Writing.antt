@@ -1,6 +1,6 @@
 -- What a loop that writes keeps: what is left, written now, gives the whole.
 use mathlib.Core.Path.{_≡_, refl, sym, ap, _∙_}
-use mathlib.Core.List.{List, [], _∷_, _++_}
+use mathlib.Core.List.{List, [], _∷_, _++_, append-nil}
 use Prim.Native.Nat.{ℕ, _+_, _≤_}
 use native.Mathlib.Omega.{arith}
 use lib.ListN.{length, set, length-append}
@@ -44,3 +44,10 @@ writing-byte {xs} {whole} {us} {a} {at} b left w = writing-run (b ∷ []) left w
 -- nothing is left
 pub writing-done : {xs whole us : List ℕ} {a at : ℕ} → Writing xs a whole us at [] → Wrote xs a whole at us
 writing-done {xs} {whole} {us} {a} {at} w = record { next = omega arith; buffer = sym (over-nil us at) ∙ w .gives }
+
+-- the room for the next run, and the last one
+pub room-for : {xs whole us : List ℕ} {a at : ℕ} (ys left : List ℕ) → Writing xs a whole us at (ys ++ left) → at + length ys ≤ length us
+room-for ys left w = let r = w .room in let l = length-append ys left in omega arith
+
+pub writing-last : {xs whole us vs : List ℕ} {a at n : ℕ} (ys : List ℕ) → Writing xs a whole us at ys → Wrote us at ys n vs → Wrote xs a whole n vs
+writing-last ys w p = writing-done (writing-run ys [] (writing-as (sym (append-nil ys)) w) p)

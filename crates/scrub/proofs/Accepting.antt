@@ -23,9 +23,9 @@ use Rattle.scrub_kept.specs.Kept.{kept}
 use Rattle.scrub_names.specs.declared.Mark.{Mark}
 use Rattle.scrub_names.specs.Marks.{Names, flagsOf, marksOf, Noted, HasLabel}
 use Rattle.scrub_names.specs.Given.{given, byIndex}
-use Rattle.scrub_write.specs.declared.Laid.{Laid}
-use Rattle.scrub_write.specs.Ops.{opsIn}
-use Rattle.scrub_write.specs.Laid.{configSize}
+use Rattle.scrub_config.specs.declared.Laid.{Laid}
+use Rattle.scrub_ops.specs.Ops.{opsIn}
+use Rattle.scrub_config.specs.Entries.{configSize}
 use Rattle.scrub_plan.specs.Planned.{Plans, SlotSmall, MarkFits}
 use Rattle.scrub.specs.declared.Found.{Found}
 use Rattle.scrub.specs.Ready.{Accepts, Ready}

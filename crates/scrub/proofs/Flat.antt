@@ -29,10 +29,11 @@ use Rattle.runs.specs.Those.{those, Each}
 use Rattle.scrub_kept.specs.Sheet.{Sheet}
 use Rattle.scrub_kept.specs.Kept.{keeps, keptPayloads, keptSync, keptItems}
 use Rattle.scrub_kept.specs.Written.{tagFor, asElement, asChunk}
-use Rattle.scrub_write.specs.declared.Op.{Op}
-use Rattle.scrub_write.specs.declared.Op.the-variants.{Skip, Put, Open}
-use Rattle.scrub_write.specs.Ops.{opBytes, opsBytes, OpFits}
-use Rattle.scrub_write.proofs.Ops.{value-length, put-size, open-size}
+use Rattle.scrub_ops.specs.declared.Op.{Op}
+use Rattle.scrub_ops.specs.declared.Op.the-variants.{Skip, Put, Open}
+use Rattle.scrub_ops.specs.Ops.{opBytes, opsBytes, OpFits}
+use Rattle.runs.proofs.Stands.{part-length}
+use Rattle.scrub_ops.proofs.Ops.{put-size, open-size}
 use Rattle.scrub_plan.specs.Planned.{sized, slotPlan, Planned, joined}
 
 -- the plan by a tag for each name, 0 for one that goes
@@ -82,7 +83,7 @@ module _ (s : List ℕ) (labels : List (List ℕ)) (sh : Sheet) (ms : List Entry
   unfolding opBytes lengthBytes
   put-bytes x h =
       let v = stretch s (x .«value_start») (x .«value_len») in
-      ap (λ (n : ℕ). tagBytes (tagFor ms (meantName labels (x .name))) ++ (formBytes (shortest n) n ++ v)) (sym (value-length s (x .«value_start») (x .«value_len») (h .ends)))
+      ap (λ (n : ℕ). tagBytes (tagFor ms (meantName labels (x .name))) ++ (formBytes (shortest n) n ++ v)) (sym (part-length s (x .«value_start») (x .«value_len») (h .ends)))
 
   put-sized : (x : Payload) → Lies x → sized (tagFor ms (meantName labels (x .name))) (x .«value_len»)
       ≡ length (element (tagFor ms (meantName labels (x .name))) (shortest (length ((said x) .value))) ((said x) .value))

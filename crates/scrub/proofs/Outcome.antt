@@ -31,7 +31,7 @@ use Rattle.scrub_sheet.specs.declared.Asked.{Asked}
 use Rattle.scrub_sheet.specs.declared.Asked.the-variants as K
 use Rattle.scrub_sheet.specs.Asked.{sheetAsked, asks, outcome}
 use Rattle.scrub_sheet.proofs.Header.{judged-outcome, judged-holds}
-use Rattle.scrub_write.specs.declared.Laid.{Laid}
+use Rattle.scrub_config.specs.declared.Laid.{Laid}
 use Rattle.scrub_write.specs.Laid.{framed, sealed, Packed, laidOut, Packs}
 use Rattle.pack_slots.specs.Slots.{slotsIn}
 use Rattle.pack_read.specs.declared.Outline.{Outline}

@@ -31,10 +31,11 @@ use Rattle.scrub_names.specs.declared.Mark.the-variants as M
 use Rattle.scrub_names.specs.Marks.{Names, flagsOf, markItem, marksOf, keptNumbers, keptLabels, Noted}
 use Rattle.scrub_names.specs.Given.{given, byIndex}
 use Rattle.scrub_names.proofs.Growing.{marks-few}
-use Rattle.scrub_write.specs.declared.Op.{Op}
-use Rattle.scrub_write.specs.Ops.{opsBytes, opsIn, OpFits}
-use Rattle.scrub_write.specs.Laid.{entriesAt, configAt, configSize, contentAt, EntriesFit}
-use Rattle.scrub_write.proofs.Entries.{config-length}
+use Rattle.scrub_ops.specs.declared.Op.{Op}
+use Rattle.scrub_ops.specs.Ops.{opsBytes, opsIn, OpFits}
+use Rattle.scrub_config.specs.Entries.{entriesAt, configAt, configSize, EntriesFit}
+use Rattle.scrub_write.specs.Laid.{contentAt}
+use Rattle.scrub_config.proofs.Entries.{config-length}
 use Rattle.scrub_plan.specs.Planned.{Planned, planned, Plans, MarkFits}
 use Rattle.scrub.specs.Ready.{Ready}
 use Rattle.scrub.proofs.Flat.{newTag, ItemLies, SlotLies, planBy, flat-items, total-size, ops-fit}

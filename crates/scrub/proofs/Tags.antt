@@ -19,7 +19,7 @@ use Rattle.scrub_kept.proofs.Listed.{never, among-here, among-more}
 use Rattle.scrub_kept.proofs.Labels.{LabelsApart}
 use Rattle.scrub_kept.proofs.Free.{free-new, free-range, free-smallest}
 use Rattle.scrub_names.specs.Given.{clearFrom, clearAt, given, byIndex}
-use Rattle.scrub_write.specs.Laid.{entriesAt}
+use Rattle.scrub_config.specs.Entries.{entriesAt}
 use Rattle.scrub.proofs.Names.{at, same-at}
 
 -- the smallest free numbers, one after the other

@@ -17,7 +17,7 @@ use Rattle.scrub_kept.specs.Written.{contentOf}
 use Rattle.scrub_sheet.specs.declared.Asked.{Asked}
 use Rattle.scrub_sheet.specs.declared.Asked.the-variants as K
 use Rattle.scrub_sheet.specs.Asked.{asks, EntriesThere}
-use Rattle.scrub_write.specs.declared.Laid.{Laid}
+use Rattle.scrub_config.specs.declared.Laid.{Laid}
 use Rattle.scrub_write.specs.Laid.{laidOut, Packs}
 use Rattle.scrub.specs.declared.Found.{Found}
 

@@ -11,8 +11,8 @@ ghost use Rattle.scrub.specs.Ready.{isRefused, Good, Accepts, Ready};
 ghost use Rattle.scrub.specs.Scrubs.{Scrubs};
 use refusals::Answer;
 use refusals::Refusal;
+use scrub_config::Laid;
 use scrub_sheet::Asked;
-use scrub_write::Laid;
 
 // The longest pack.
 const PACK_CAP: usize = 32768;
@@ -72,7 +72,7 @@ fn prepare(
     scrub_names::assign(&taken, labels, &mut *tags);
     let index = scrub_names::by_index(order, tags, labels);
     let bytes = scrub_plan::plan_slots(slots, &marks, &index, found.count, &mut *ops);
-    let size = scrub_write::config_size(found.offset, labels) + bytes as usize + 6;
+    let size = scrub_config::config_size(found.offset, labels) + bytes as usize + 6;
     Laid {
         offset: found.offset,
         labels,

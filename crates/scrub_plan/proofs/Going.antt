@@ -8,10 +8,10 @@ use lib.Seq.{drop-cons, set-at, take-at}
 use Rattle.runs.specs.Cells.{numbersOf, Puts, Own}
 use Rattle.pack.specs.declared.Slot.{Slot}
 use Rattle.scrub_names.specs.declared.Mark.{Mark}
-use Rattle.scrub_write.specs.declared.Op.the-variants.{Skip}
-use Rattle.scrub_write.specs.declared.Op.{Op}
-use Rattle.scrub_write.specs.Ops.{opNumbers, opAt, opsIn}
-use Rattle.scrub_write.proofs.Cells.{ops-none, own-nothing, own-write}
+use Rattle.scrub_ops.specs.declared.Op.the-variants.{Skip}
+use Rattle.scrub_ops.specs.declared.Op.{Op}
+use Rattle.scrub_ops.specs.Ops.{opNumbers, opAt, opsIn}
+use Rattle.scrub_ops.proofs.Cells.{ops-none, own-nothing, own-write}
 use Rattle.scrub_plan.specs.declared.SlotPlan.{SlotPlan}
 use Rattle.scrub_plan.specs.Planned.{tagOf, slotPlan, Planned, joined, planned, Plans}
 

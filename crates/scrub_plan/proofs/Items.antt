@@ -15,8 +15,8 @@ use Rattle.pack.specs.declared.Item.{Item}
 use Rattle.pack.specs.declared.Item.the-variants as I
 use Rattle.scrub_names.specs.declared.Mark.{Mark}
 use Rattle.scrub_names.specs.declared.Mark.the-variants as M
-use Rattle.scrub_write.specs.declared.Op.the-variants.{Skip, Put, Open}
-use Rattle.scrub_write.proofs.Entries.{length-small}
+use Rattle.scrub_ops.specs.declared.Op.the-variants.{Skip, Put, Open}
+use Rattle.numbers.proofs.Lengths.{length-small}
 use Rattle.scrub_plan.specs.declared.SlotPlan.{SlotPlan}
 use Rattle.scrub_plan.specs.Planned.{sized, slotPlan, ItemSmall, MarkFits}
 

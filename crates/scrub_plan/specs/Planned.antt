@@ -15,9 +15,9 @@ use Rattle.pack.specs.Fixed.{packCap, mappingCap, itemCap}
 use Rattle.pack.specs.Slots.{padded}
 use Rattle.scrub_names.specs.declared.Mark.{Mark}
 use Rattle.scrub_names.specs.declared.Mark.the-variants as M
-use Rattle.scrub_write.specs.declared.Op.the-variants.{Skip, Put, Open}
-use Rattle.scrub_write.specs.declared.Op.{Op}
-use Rattle.scrub_write.specs.Ops.{opNumbers}
+use Rattle.scrub_ops.specs.declared.Op.the-variants.{Skip, Put, Open}
+use Rattle.scrub_ops.specs.declared.Op.{Op}
+use Rattle.scrub_ops.specs.Ops.{opNumbers}
 use Rattle.scrub_plan.specs.declared.SlotPlan.{SlotPlan}
 
 -- the tag that a slot with this mark is written with, 0 if it goes; `index` has the new tags of labels

@@ -5,14 +5,14 @@ ghost use lib.ListN.{take, replicate};
 ghost use Rattle.runs.specs.Those.{Each};
 ghost use Rattle.pack_slots.specs.Slots.{slotsIn};
 ghost use Rattle.scrub_names.specs.Marks.{marksIn};
-ghost use Rattle.scrub_write.specs.Ops.{opsIn};
+ghost use Rattle.scrub_ops.specs.Ops.{opsIn};
 ghost use Rattle.scrub_plan.specs.Planned.{tagOf, sized, slotPlan, Plans, ItemSmall, SlotSmall, MarkFits};
 ghost use Rattle.pack.specs.declared.Item.the-variants as I;
 use pack::Head;
 use pack::Item;
 use pack::Payload;
 use scrub_names::Mark;
-use scrub_write::Op;
+use scrub_ops::Op;
 
 // What a slot adds: its write, the bytes inside a Sync that is still to come, and its size.
 pub struct SlotPlan {
@@ -129,7 +129,7 @@ pub fn plan_slots(
         let tag = tag_of(mark, index);
         let plan = plan_slot(item, tag, inner);
         let op = plan.op;
-        scrub_write::put_op(&mut *ops, i, op);
+        scrub_ops::put_op(&mut *ops, i, op);
         inner = plan.inner;
         size += plan.size;
     }

@@ -1,6 +1,2 @@
-pub mod Runs
-pub mod Ops
-pub mod Cells
-pub mod Entries
-pub mod Close
-pub mod Whole
+mod Close
+mod Whole

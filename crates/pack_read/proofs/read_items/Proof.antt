@@ -6,7 +6,7 @@ use denote.Ref.{now}
 use Rattle.pack.specs.Items.{itemAt}
 use Rattle.pack.specs.declared.Step.the-variants as S
 use Rattle.pack.proofs.Payloads.{plain-fits, open-fits, close-ends}
-use Rattle.pack_read.proofs.Coming.{coming-ends, coming-bad, coming-good, coming-crc, sync-refused, sync-some, sync-none, inside-long, inside-part}
+use Rattle.pack.proofs.Coming.{coming-ends, coming-bad, coming-good, coming-crc, sync-refused, sync-some, sync-none, inside-long, inside-part}
 use Rattle.pack_read.proofs.Listing.{Listing, listing-begins, tells-refused, tells-done, listing-plain, listing-sync}
 use Prim.Native.Nat.{_-_}
 use lib.ListN.{length, take}

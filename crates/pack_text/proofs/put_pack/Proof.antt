@@ -7,7 +7,7 @@ use borrow.Author.Needs.{needs}
 use native.Mathlib.Omega.{arith}
 use lib.ListN.{length}
 use Rattle.runs.specs.Over.{Wrote}
-use Rattle.pack_text.specs.Fields.{FieldPut}
+use Rattle.figures.specs.Fields.{FieldPut}
 use Rattle.pack_text.specs.Text.{line, crcWord, packFields}
 use Rattle.pack_text.proofs.Fields.{Fields, first-field, next-field, last-field}
 use Rattle.pack_text.proofs.put_pack.Statement.{statement}

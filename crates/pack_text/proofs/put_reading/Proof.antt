@@ -7,12 +7,12 @@ use native.Mathlib.Omega.{arith}
 use lib.ListN.{length, take, length-append}
 use Rattle.runs.specs.Digits.{Bytes}
 use Rattle.runs.proofs.Over.{wrote-as}
-use Rattle.runs.proofs.Writing.{Writing, writing-begins, writing-as, writing-run}
+use Rattle.runs.proofs.Writing.{Writing, writing-begins, writing-as, writing-run, writing-last}
 use Rattle.pack.specs.Reading.{reading}
 use Rattle.pack_text.specs.Text.{line, packFields, refusedFields, listing}
 use Rattle.pack_text.specs.Slots.{slotLines}
 use Rattle.pack_text.proofs.Within.{listing-fits, wrote-within}
-use Rattle.pack_text.proofs.Fields.{line-room, writing-last}
+use Rattle.pack_text.proofs.Fields.{line-room}
 use Rattle.pack_text.proofs.Whole.{Lines, done-lines, refused-line}
 use Rattle.pack_text.proofs.put_reading.Statement.{statement}
 use Rattle.pack_text.proofs.put_reading.Tie as tie
@@ -81,7 +81,7 @@ returns : tie.Need-returns
 returns c =
     let k = c .before .before .before .before .before .before in
     let b = known (k .before) in
-    wrote-within (b .before .before .args .pack .now) (bytes b) (b .before .before .pre .1) (writing-last (after-pack k) (c .before .before .put-slots .ensures))
+    wrote-within (b .before .before .args .pack .now) (bytes b) (b .before .before .pre .1) (writing-last _ (after-pack k) (c .before .before .put-slots .ensures))
 
 returns-2 : tie.Need-returns-2
 returns-2 c =

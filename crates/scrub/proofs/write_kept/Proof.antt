@@ -4,7 +4,7 @@ use mathlib.Core.Logic.{inl, inr}
 use Prim.Native.Nat.{_<_}
 use native.Mathlib.Omega.{arith}
 use borrow.Author.Needs.{needs}
-use Rattle.scrub_write.proofs.Entries.{length-small}
+use Rattle.numbers.proofs.Lengths.{length-small}
 use Rattle.scrub.proofs.Outcome.{packs, no-room, wrote}
 use Rattle.scrub.proofs.write_kept.Statement.{statement}
 use Rattle.scrub.proofs.write_kept.Tie as tie

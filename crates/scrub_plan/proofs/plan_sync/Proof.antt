@@ -3,7 +3,7 @@ use Prim.Native.Nat.{_+_, _≤_}
 use mathlib.Core.Path.{refl}
 use native.Mathlib.Omega.{arith}
 use borrow.Author.Needs.{needs}
-use Rattle.scrub_write.proofs.Entries.{length-small}
+use Rattle.numbers.proofs.Lengths.{length-small}
 use Rattle.scrub_plan.proofs.Items.{sync-goes, sync-stays}
 use Rattle.scrub_plan.proofs.plan_sync.Statement.{statement}
 use Rattle.scrub_plan.proofs.plan_sync.Tie as tie

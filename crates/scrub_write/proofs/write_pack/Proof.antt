@@ -6,10 +6,9 @@ use lib.ListN.{take, length-append}
 use borrow.Author.Needs.{needs}
 use Rattle.runs.specs.Over.{Wrote}
 use Rattle.runs.proofs.Over.{wrote-length}
-use Rattle.runs.proofs.Writing.{Writing, writing-run}
-use Rattle.scrub_write.specs.Ops.{opsBytes, opsIn}
-use Rattle.scrub_write.specs.Laid.{configAt}
-use Rattle.scrub_write.proofs.Runs.{room-for, writing-last}
+use Rattle.runs.proofs.Writing.{Writing, writing-run, room-for, writing-last}
+use Rattle.scrub_ops.specs.Ops.{opsBytes, opsIn}
+use Rattle.scrub_config.specs.Entries.{configAt}
 use Rattle.scrub_write.proofs.Whole.{starts, starts-length, whole-begins, whole-ends}
 use Rattle.scrub_write.proofs.write_pack.Statement.{statement}
 use Rattle.scrub_write.proofs.write_pack.Tie as tie

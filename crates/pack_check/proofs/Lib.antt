@@ -1,0 +1,2 @@
+pub mod One
+mod Checked
