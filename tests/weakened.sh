@@ -8,8 +8,8 @@ set -uo pipefail
 cd "$(dirname "$0")/.." || exit 2
 
 passed=0 failed=0
-copy=$(mktemp -d) || exit 2
-trap 'rm -rf "$copy"' EXIT
+copies=$(mktemp -d) || exit 2
+trap 'rm -rf "$copies"' EXIT
 
 # check WHAT COMMAND...: one check, and what is wrong if it failed.
 check() {
@@ -21,14 +21,14 @@ check() {
 # exports: the name of each.
 exports() { sed -nE 's/^pub extern "C" fn ([a-z_]+)\(.*/\1/p' crates/ballastwren/src/lib.rt; }
 
-# contract EXPORT: the export's contract in the copy.
-contract() { sed -n "/^pub extern \"C\" fn $1(/,/^{/ p" "$copy/crates/ballastwren/src/lib.rt"; }
+# contract EXPORT CRATE: the export's contract, where crates/ballastwren stands in CRATE.
+contract() { sed -n "/^pub extern \"C\" fn $1(/,/^{/ p" "$2/src/lib.rt"; }
 
-# weaken EXPORT WHERE: its contract holds where the number that it tells is so, and its proof is handed that fact.
+# weaken EXPORT WHERE CRATE: its contract holds where the number that it tells is so, and its proof is handed that fact.
 weaken() {
-    sed -i -E "/^pub extern \"C\" fn $1\(/,/^\{/ s/⌜ (.*) ⌝/⌜ ($2 → \1) ⌝/" "$copy/crates/ballastwren/src/lib.rt"
-    sed -i -E 's/^(returns[-0-9]*) c =/\1 c told =/' "$copy/crates/ballastwren/proofs/$1/Proof.antt"
-    check "$1 has its contract still" grep -qF "⌜ ($2 → " <(contract "$1")
+    sed -i -E "/^pub extern \"C\" fn $1\(/,/^\{/ s/⌜ (.*) ⌝/⌜ ($2 → \1) ⌝/" "$3/src/lib.rt"
+    sed -i -E 's/^(returns[-0-9]*) c =/\1 c told =/' "$3/proofs/$1/Proof.antt"
+    check "$1 has its contract still" grep -qF "⌜ ($2 → " <(contract "$1" "$3")
 }
 
 # callers EXPORT...: the functions of crates/demands that call one of the exports.
@@ -52,26 +52,42 @@ judged() {
     done < <(sed -nE 's/^pub fn ([a-z_]+)\(.*/\1/p' crates/demands/src/lib.rt)
 }
 
-# refused WHERE EXPORT...: what becomes of the demands when these promise something there alone.
-refused() {
-    local log=$copy/log where=$1 name
-    shift
+# lessened COPY WHERE EXPORT...: a copy of the tree in which these promise something there alone.
+lessened() {
+    local copy=$1 where=$2 name
+    shift 2
     rm -rf "$copy/crates"
     cp -r crates "$copy" || exit 2
-    for name in "$@"; do weaken "$name" "$where"; done
-    (cd "$copy" && rt check demands) >"$log" 2>&1
-    check "the weaker contracts are not met, $where: $*" grep -q '^rt: ballastwren proved' "$log"
-    check "the page of promises does not stand, $where: $*" grep -q '^rt: promises proved' "$log"
+    for name in "$@"; do weaken "$name" "$where" "$copy/crates/ballastwren"; done
+}
+
+# proved COPY: what the prover says of the demands there.
+proved() { (cd "$1" && RT_JOBS=1 rt check demands) >"$1/log" 2>&1; }
+
+# refused COPY EXPORT...: what has become of the demands when these promise less.
+refused() {
+    local log=$1/log
+    shift
+    check "the weaker contracts are not met: $*" grep -q '^rt: ballastwren proved' "$log"
+    check "the page of promises does not stand: $*" grep -q '^rt: promises proved' "$log"
     judged "$(callers "$@")" "$log"
 }
 
-cp crates.txt "$copy" || exit 2
-if [[ -d target ]]; then cp -r target "$copy" || exit 2; fi
 some=(bw_check bw_scrub bw_pmd_read bw_gain) others=(bw_read bw_sheet_check bw_pmd_write)
 check "an export is not tried" cmp -s <(printf '%s\n' "${some[@]}" "${others[@]}" bw_version | sort) <(exports | sort)
+for copy in "$copies/some" "$copies/others"; do
+    mkdir "$copy" && cp crates.txt "$copy" || exit 2
+    if [[ -d target ]]; then cp -r target "$copy" || exit 2; fi
+done
 for where in 'r .number ≡ 0' '(r .number ≡ 0 → ⊥)'; do
-    refused "$where" "${some[@]}"
-    refused "$where" "${others[@]}"
+    echo "promised only where $where"
+    lessened "$copies/some" "$where" "${some[@]}"
+    lessened "$copies/others" "$where" "${others[@]}"
+    proved "$copies/some" &
+    proved "$copies/others"
+    wait
+    refused "$copies/some" "${some[@]}"
+    refused "$copies/others" "${others[@]}"
 done
 
 echo "$passed passed, $failed failed"

@@ -1,19 +1,14 @@
--- Each public function admits one outcome.
+-- The reading into lent arrays admits one outcome, told entry by entry.
 use Prim.Native.Nat.{ℕ}
 use mathlib.Core.Path.{_≡_, ap}
 use mathlib.Core.List.{List}
 use Rattle.runs.proofs.Cases.{one}
 use Rattle.runs.proofs.Own.{own-one}
 use Rattle.pack.specs.Fixed.{itemCap}
-use Rattle.pack.specs.Reading.{reading}
-use Rattle.pack.specs.Slots.{shown}
 use Rattle.pack.specs.declared.Reading.{Reading}
 use Rattle.pack_slots.specs.Slots.{slotAt, slotNumbers}
 use Rattle.pack_read.specs.Shown.{outlineOf, Outlined}
 use Rattle.pack_read.specs.declared.Outline.{Outline}
-
-pub reading-one : (s : List ℕ) (a b : Reading) → a ≡ shown (reading s) → b ≡ shown (reading s) → a ≡ b
-reading-one s a b = one
 
 -- the outline, and each number of the three arrays
 pub outline-one : (s : List ℕ) (a b : Outline) (xs ts ps ys us qs : List ℕ) → Outlined s a xs ts ps → Outlined s b ys us qs

@@ -2,4 +2,3 @@ pub mod Laws
 pub mod Whole
 pub mod Signs
 pub mod Worked
-pub mod One

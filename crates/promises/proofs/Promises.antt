@@ -34,14 +34,8 @@ use Rattle.pack.specs.Payloads.{innersFrom}
 use Rattle.pack.specs.Items.{itemsFrom}
 use Rattle.pack.specs.Config.{mappingsFrom}
 use Rattle.pack.specs.Reading.{Read, reading, checked}
-use Rattle.pack.specs.Slots.{shown}
-use Rattle.pack.specs.Meaning.{meant, valueOf, labelAt}
-use Rattle.pack.specs.declared.Payload.{Payload}
-use Rattle.pack.specs.declared.Reading.{Reading}
+use Rattle.pack.specs.Meaning.{meant}
 use Rattle.pack.proofs.Fuel as fuel
-use Rattle.pack_check.proofs.One as checker
-use Rattle.pack_read.proofs.One as reader
-use Rattle.pack_value.proofs.One as values
 use Rattle.pack_text.specs.Text.{listing}
 use Rattle.pack_text.proofs.One as listings
 use Rattle.pack_layout.specs.Layout.{Entry, noConfig, entriesLaid, Description, layout}
@@ -66,18 +60,11 @@ use Rattle.scrub_kept.proofs.Keeping as keeping
 use Rattle.scrub_kept.proofs.Sheets as sheets
 use Rattle.scrub_kept.proofs.Scrubbing as scrubbing
 use Rattle.scrub_kept.proofs.ReadBack as back
-use Rattle.scrub.specs.Scrubs.{Scrubs}
-use Rattle.scrub.proofs.One as scrubs
 use Rattle.pmd.specs.Reading as pmd
 use Rattle.pmd.specs.Writing.{fieldsWritten}
-use Rattle.refusals.specs.Lent.{within, Delivered}
 use Rattle.pmd.specs.Gain.{levelOf}
-use Rattle.pmd.specs.declared.Level.{Level}
 use Rattle.pmd.proofs.RoundTrips as trips
 use Rattle.pmd.proofs.Levels as levels
-use Rattle.pmd.proofs.One as gains
-use Rattle.pmd_read.proofs.One as pmd-reads
-use Rattle.pmd_write.proofs.One as pmd-writes
 use Rattle.ballastwren.specs.Told.{toldOf, toldGainOf, BwRead, BwScrub, BwPmdRead, BwPmdWrite}
 use Rattle.ballastwren.specs.Version.{version}
 use Rattle.ballastwren.specs.declared.Told.{Told}
@@ -155,23 +142,7 @@ pub refused-exactly : (s : List ℕ) → Bytes s → (why : Refusal) (place : �
     → (reading s ≡ refused why place → Refused s why place) × (Refused s why place → reading s ≡ refused why place)
 refused-exactly = refused-packs.refused-exactly
 
--- Two readings that meet the contract of `read` on the same bytes coincide, unused slots included; so do two answers of `check`, and the answer of
--- `check` is the one in the reading. (Of `value`, `label` and `list` too.)
-pub reading-one : (s : List ℕ) (a b : Reading) → a ≡ shown (reading s) → b ≡ shown (reading s) → a ≡ b
-reading-one = reader.reading-one
-
-pub check-one : (s : List ℕ) (a b : Answer) → a ≡ checked s → b ≡ checked s → a ≡ b
-check-one = checker.check-one
-
-pub check-is-read : (s : List ℕ) → checked s ≡ shown (reading s) .answer
-check-is-read = checker.check-is-read
-
-pub value-one : (s : List ℕ) (x : Payload) (a b : List ℕ) → a ≡ valueOf s x → b ≡ valueOf s x → a ≡ b
-value-one = values.value-one
-
-pub label-one : (s : List ℕ) (place : ℕ) (a b : List ℕ) → a ≡ labelAt s place → b ≡ labelAt s place → a ≡ b
-label-one = values.label-one
-
+-- Two texts of a listing coincide, with all that follows them in the buffer.
 pub list-one : (pack out : List ℕ) {a b : ℕ} {us vs : List ℕ} → Wrote out 0 (listing pack (reading pack)) a us → Wrote out 0 (listing pack (reading pack)) b vs
     → (a ≡ b) × (us ≡ vs)
 list-one = listings.list-one
@@ -179,10 +150,6 @@ list-one = listings.list-one
 -- SCRUBBING A PACK
 -- `BwScrub sheet s before a after` is the contract of `bw_scrub`: handed these bytes of a sheet and this pack, and lent a buffer that held `before`, it
 -- tells C the two numbers a and leaves `after` in the buffer. A pack was written exactly where the first number is 0, and then the second is its length.
-
--- Two outcomes of `scrub`, which it stands on, coincide on the same sheet, pack and buffer.
-pub scrub-one : (sheet s before : List ℕ) {a b : Answer} {us vs : List ℕ} → Scrubs sheet s before a us → Scrubs sheet s before b vs → (a ≡ b) × (us ≡ vs)
-scrub-one = scrubs.scrub-one
 
 module _ (sheet s : List ℕ) (sh : Sheet) (r : Read) (named : sheetOf sheet ≡ fine sh) (accepted : reading s ≡ fine r) where
   -- Two accepted packs of the same pack offset and the same kept items, in order and in Syncs of the same two numbers, scrubbed by one sheet into
@@ -346,21 +313,6 @@ pub bw-write-then-read : (kind : ℕ) (numbers : List ℕ) {before value run end
     → BwPmdWrite kind numbers before a value → a .number ≡ 0 → BwPmdRead kind (take (a .value) value) run b end → length numbers ≤ length run
     → (b ≡ record { number = 0; value = length numbers }) × (end ≡ over run 0 numbers)
 bw-write-then-read kind numbers = edge.there-and-back (pmd.fieldsRead kind) numbers (λ s e. trips.write-then-read kind s numbers e)
-
--- Two outcomes of `pmd_read` on the same kind, value and numbers coincide, the numbers included; so do two of `pmd_write`, the buffer included, and
--- two levels of a gain.
-pub pmd-read-one : (kind : ℕ) (value before us vs : List ℕ) (a b : Answer)
-    → Delivered (within (length before) (pmd.fieldsRead kind value)) before a us → Delivered (within (length before) (pmd.fieldsRead kind value)) before b vs
-    → (a ≡ b) × (us ≡ vs)
-pmd-read-one = pmd-reads.pmd-read-one
-
-pub pmd-write-one : (kind : ℕ) (numbers before us vs : List ℕ) (a b : Answer)
-    → Delivered (within (length before) (fieldsWritten kind numbers)) before a us → Delivered (within (length before) (fieldsWritten kind numbers)) before b vs
-    → (a ≡ b) × (us ≡ vs)
-pmd-write-one = pmd-writes.pmd-write-one
-
-pub gain-one : (g : ℕ) (a b : Level) → a ≡ levelOf g → b ≡ levelOf g → a ≡ b
-gain-one = gains.gain-one
 
 -- WHAT C CALLS
 

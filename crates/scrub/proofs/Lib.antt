@@ -6,4 +6,3 @@ pub mod Tagged
 pub mod Preparing
 pub mod Accepting
 pub mod Outcome
-pub mod One

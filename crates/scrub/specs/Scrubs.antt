@@ -1,4 +1,4 @@
--- Trusted. What a scrub promises.
+-- Inner. What a scrub promises.
 use mathlib.Core.List.{List}
 use Prim.Native.Nat.{ℕ}
 use lib.ListN.{length}

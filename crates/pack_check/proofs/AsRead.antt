@@ -1,16 +1,11 @@
--- A check admits one outcome, and answers what a reading answers.
+-- A check answers what a reading answers.
 use Prim.Native.Nat.{ℕ}
 use mathlib.Core.Path.{_≡_, refl}
 use mathlib.Core.List.{List}
-use Rattle.runs.proofs.Cases.{one}
-use Rattle.refusals.specs.declared.Answer.{Answer}
 use Rattle.refusals.specs.Outcomes.{Outcome, fine, refused, answered}
 use Rattle.pack.specs.Items.{countOf}
 use Rattle.pack.specs.Reading.{Read, reading, checked}
 use Rattle.pack.specs.Slots.{shown}
-
-pub check-one : (s : List ℕ) (a b : Answer) → a ≡ checked s → b ≡ checked s → a ≡ b
-check-one s a b = one
 
 answer-of : (o : Outcome Read) → answered (λ (r : Read). countOf (r .body .parts)) o ≡ shown o .answer
 unfolding answered shown
