@@ -1,7 +1,7 @@
 -- What C is told tells the answer, and with it the outcome: so what is known of an outcome is known of what C is told and of what a lent run holds.
 use mathlib.Core.Path.{_≡_, refl, sym, ap, ap₂, _∙_}
 use mathlib.Core.List.{List}
-use Prim.Native.Nat.{ℕ, _≤_}
+use Prim.Native.Nat.{ℕ, _<_, _≤_}
 use native.Mathlib.Nat.{zero-add}
 use native.Mathlib.Omega.{arith}
 use lib.ListN.{length, take}
@@ -13,7 +13,7 @@ use Rattle.refusals.specs.declared.Answer.{Answer}
 use Rattle.refusals.specs.declared.Answer.the-variants as A
 use Rattle.refusals.specs.Outcomes.{Outcome, fine, refused, answered, told}
 use Rattle.refusals.specs.Lent.{within, lent, Lends}
-use Rattle.refusals.proofs.Lent.{within-fine, fine-within}
+use Rattle.refusals.proofs.Lent.{within-fine, fine-within, none-within}
 use Rattle.refusals.proofs.Numbers as numbers
 use Rattle.refusals.proofs.Outcomes.{done-of, refused-of}
 use Rattle.scrub_kept.specs.Scrubbed.{leaves}
@@ -63,6 +63,15 @@ lent-unchanged before why place = refl
 pub leaves-unchanged : (before : List ℕ) (why : Refusal) (place : ℕ) → leaves before (refused why place) ≡ before
 unfolding answered
 leaves-unchanged before why place = refused-same before (refused why place) why place refl
+
+-- a list is told by its length where the lent run has room for it, and by NOROOM where it has not
+pub room-told : {o : Outcome (List ℕ)} {xs before after : List ℕ} {t : Told} → o ≡ fine xs → Lends toldOf lent (within (length before) o) before t after
+    → (length xs ≤ length before → t ≡ record { number = 0; value = length xs }) × (length before < length xs → t ≡ record { number = 15; value = 0 })
+unfolding answered
+room-told {o} {xs} {before} e x =
+    let tell : Outcome (List ℕ) → Told = λ z. toldOf (answered length z) in
+    let is = x .told ∙ ap (λ (z : Outcome (List ℕ)). tell (within (length before) z)) e in
+    (λ h. is ∙ ap tell (fine-within (length before) xs h), λ h. is ∙ ap tell (none-within (length before) xs h))
 
 -- THERE AND BACK
 

@@ -314,6 +314,17 @@ pub bw-write-then-read : (kind : ℕ) (numbers : List ℕ) {before value run end
     → (b ≡ record { number = 0; value = length numbers }) × (end ≡ over run 0 numbers)
 bw-write-then-read kind numbers = edge.there-and-back (pmd.fieldsRead kind) numbers (λ s e. trips.write-then-read kind s numbers e)
 
+-- Of a value that has fields `bw_pmd_read` tells how many they are where the lent run has room for them, and NOROOM, number 15 and place 0, exactly where it
+-- has not.
+pub pmd-read-room-exactly : (kind : ℕ) (value xs : List ℕ) → pmd.fieldsRead kind value ≡ fine xs → {before after : List ℕ} {a : Told} → BwPmdRead kind value before a after
+    → (length xs ≤ length before → a ≡ record { number = 0; value = length xs }) × (length before < length xs → a ≡ record { number = 15; value = 0 })
+pmd-read-room-exactly kind value xs e = edge.room-told e
+
+-- And so `bw_pmd_write` of a list of numbers that makes a value.
+pub pmd-write-room-exactly : (kind : ℕ) (numbers s : List ℕ) → fieldsWritten kind numbers ≡ fine s → {before after : List ℕ} {a : Told} → BwPmdWrite kind numbers before a after
+    → (length s ≤ length before → a ≡ record { number = 0; value = length s }) × (length before < length s → a ≡ record { number = 15; value = 0 })
+pmd-write-room-exactly kind numbers s e = edge.room-told e
+
 -- WHAT C CALLS
 
 -- What C is told determines the answer and its place: no two answers are told by the same two numbers.
