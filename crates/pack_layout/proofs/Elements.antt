@@ -64,14 +64,14 @@ element-back p at t form value rest e low high fits =
     }
 
 -- An element with the tag t is laid out at `at` of p, in some form of its length; its value runs l bytes from v on.
-pub record Laid (p : List ℕ) (at t v l : ℕ) : Type 0 where
+pub record ElementLaid (p : List ℕ) (at t v l : ℕ) : Type 0 where
   pub form : ℕ
   pub low : 0 < t
   pub high : t < 128 ^ 4
   pub fits : FormFits form (length (take l (drop v p)))
   pub stands : drop at p ≡ element t form (take l (drop v p)) ++ drop (v + l) p
 
-pub payload-laid : (p : List ℕ) (at t v l : ℕ) → Bytes p → payloadAt p at ≡ Whole t v l → Laid p at t v l
+pub payload-laid : (p : List ℕ) (at t v l : ℕ) → Bytes p → payloadAt p at ≡ Whole t v l → ElementLaid p at t v l
 payload-laid p at t v l b h =
     let r = payload-parsed p at t v l h in
     let n = r .after in

@@ -20,7 +20,7 @@ use Rattle.pack.specs.Items.{itemsFrom}
 use Rattle.pack.specs.Reading.{valueStart, configOf, openingAt, readFrom, reading}
 use Rattle.pack_layout.specs.Layout.{Chunk, plain, group, ConfigLaid, noConfig, config, element, groupBytes, chunksBytes, configBytes, entriesLaid, offsetLaid}
 use Rattle.pack_layout.specs.Well.{WellChunks, WellConfig}
-use Rattle.pack_layout.specs.Refused.{Has, NoElement, NoItem, itemBroken, lateConfig, earlyCrc, itemTooMany, longCrc, wrongCrc, emptySync, NoConfig, Framed, Laid, Refused, tooBig, tooShort, otherKey, packBadLength, packRunsOut, packTrails, inConfig, atItem, inSync}
+use Rattle.pack_layout.specs.Refused.{Has, NoElement, NoItem, itemBroken, lateConfig, earlyCrc, itemTooMany, longCrc, wrongCrc, emptySync, NoConfig, Framed, Front, Refused, tooBig, tooShort, otherKey, packBadLength, packRunsOut, packTrails, inConfig, atItem, inSync}
 use Rattle.pack_layout.proofs.Elements.{has-back}
 use Rattle.pack_layout.proofs.Opens.{noConfigRead, opening-run, start-run}
 use Rattle.pack_layout.proofs.Packs.{Started, start-laid, Opened, config-laid, names-mean}
@@ -105,7 +105,7 @@ module _ (s : List ℕ) (b : Bytes s) where
       ∙ ap (refused why) (sym (a .long))
 
   -- items that are wrong after what is laid out well
-  items-back : {used place : ℕ} {why : Refusal} (start content w : List ℕ) → Framed s start (content ++ w) → Laid content used
+  items-back : {used place : ℕ} {why : Refusal} (start content w : List ℕ) → Framed s start (content ++ w) → Front content used
       → (length content ≡ 0 → (at : ℕ) → drop at s ≡ w → (v l : ℕ) → payloadAt s at ≡ Whole 1 v l → ⊥)
       → ((tags : List ℕ) (k at : ℕ) → drop at s ≡ w → length s ≤ at + k → itemsFrom k s tags at used ≡ refused why place) → reading s ≡ refused why place
   unfolding reading readFrom

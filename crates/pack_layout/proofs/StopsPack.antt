@@ -24,7 +24,7 @@ use Rattle.pack.proofs.Payloads.{payload-within}
 use Rattle.numbers.specs.Big.{bigAt}
 use Rattle.pack_layout.specs.Layout.{chunksBytes, configBytes}
 use Rattle.pack_layout.specs.Well.{chunksCount}
-use Rattle.pack_layout.specs.Refused.{Has, Framed, Laid, Refused, inConfig, atItem, inSync}
+use Rattle.pack_layout.specs.Refused.{Has, Framed, Front, Refused, inConfig, atItem, inSync}
 use Rattle.pack_layout.proofs.Elements.{has-laid, has-back}
 use Rattle.pack_layout.proofs.Opens.{OpeningRead, noConfigRead, configRead, opening-of, StartRead, start-of}
 use Rattle.pack_layout.proofs.Described.{opening-described}
@@ -108,12 +108,12 @@ module _ (s : List ℕ) (b : Bytes s) (why : Refusal) (place : ℕ) where
       let w = i .left in
       let stands : drop at s ≡ x ++ y ++ w = d .stands ∙ ap (λ (l : List ℕ). x ++ l) (i .stands) ∙ sym (append-assoc x y w) in
       let framed : Framed s (f .start) (x ++ y ++ w) = subst (Framed s (f .start)) stands (f .framed) in
-      let laid : Laid (x ++ y) (0 + chunksCount (i .chunks)) =
+      let laid : Front (x ++ y) (0 + chunksCount (i .chunks)) =
       record { first = d .first; chunks = i .chunks; opening = d .well; items = i .well; count = omega arith; few = i .few; is = refl } in
       says (f .start) (x ++ y) w framed laid (after-something x y w p (d .stands) stands) (i .wrong)
     where
       -- what is wrong after this start and this content
-      says : {used : ℕ} (start content w : List ℕ) → Framed s start (content ++ w) → Laid content used → ((v rest : List ℕ) → Has w 1 v rest → 0 < length content)
+      says : {used : ℕ} (start content w : List ℕ) → Framed s start (content ++ w) → Front content used → ((v rest : List ℕ) → Has w 1 v rest → 0 < length content)
           → WrongAt s w used why place → Refused s why place
       says start content w framed laid first (noItem there wrong) =
           let whole = framed .is in

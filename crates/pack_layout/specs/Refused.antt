@@ -88,7 +88,7 @@ pub record Framed (s start value : List ℕ) : Type 0 where
   pub is : s ≡ start ++ value
 
 -- content that may stand at the front of a pack's value, with so many payloads and Syncs
-pub record Laid (content : List ℕ) (used : ℕ) : Type 0 where
+pub record Front (content : List ℕ) (used : ℕ) : Type 0 where
   pub first : ConfigLaid
   pub chunks : List Chunk
   pub opening : WellConfig first
@@ -109,8 +109,8 @@ pub data Refused (s : List ℕ) : Refusal → ℕ → Type 0 where
   packTrails : length s ≤ packCap → (form : ℕ) (v more : List ℕ) → FormFits form (length v) → 0 < length more
       → s ≡ key ++ (formBytes form (length v) ++ (v ++ more)) → Refused s R.Trail 0
   inConfig : {why : Refusal} (start value c rest : List ℕ) → Framed s start value → Has value 1 c rest → NoConfig c why → Refused s why (length start)
-  atItem : {why : Refusal} {used : ℕ} (start content w : List ℕ) → Framed s start (content ++ w) → Laid content used → NoItem start content w used why
+  atItem : {why : Refusal} {used : ℕ} (start content w : List ℕ) → Framed s start (content ++ w) → Front content used → NoItem start content w used why
       → Refused s why (length (start ++ content))
-  inSync : {why : Refusal} {used : ℕ} (start content w rest : List ℕ) (o d : ℕ) (xs : List Element) (z : List ℕ) → Framed s start (content ++ w) → Laid content used
+  inSync : {why : Refusal} {used : ℕ} (start content w rest : List ℕ) (o d : ℕ) (xs : List Element) (z : List ℕ) → Framed s start (content ++ w) → Front content used
       → o < 65536 → d < 65536 → WellElements xs → used + 1 + length xs ≤ itemCap → Has w 2 (groupBytes o d xs ++ z) rest → NoInner z (used + 1 + length xs) why
       → Refused s why (length s - length (z ++ rest))

@@ -23,7 +23,7 @@ use Rattle.scrub_kept.specs.Kept.{kept}
 use Rattle.scrub_names.specs.declared.Mark.{Mark}
 use Rattle.scrub_names.specs.Marks.{Names, flagsOf, marksOf, Noted, HasLabel}
 use Rattle.scrub_names.specs.Given.{given, byIndex}
-use Rattle.scrub_config.specs.declared.Laid.{Laid}
+use Rattle.scrub_config.specs.declared.Measured.{Measured}
 use Rattle.scrub_ops.specs.Ops.{opsIn}
 use Rattle.scrub_config.specs.Entries.{configSize}
 use Rattle.scrub_plan.specs.Planned.{Plans, SlotSmall, MarkFits}
@@ -94,10 +94,10 @@ module _ (s : List ℕ) (bytes : Bytes s) {found : Found} {stood : List ℕ} {it
         → Ready (kept sh (meant s q)) s stood (nm .order) tags ops (record { offset = found .offset; labels = nm .labels; writes = found .count; size = size + bytes + 6 })
     prepared tags index ops n size t i p z q e =
         let same : r ≡ q = let x = g .is in cc in
-        let laid : ℕ → Laid = λ o. record { offset = o; labels = nm .labels; writes = found .count; size = size + n + 6 } in
+        let measured : ℕ → Measured = λ o. record { offset = o; labels = nm .labels; writes = found .count; size = size + n + 6 } in
         let done = ready s bytes r (g .is) sh nm noted-is tags index t i ops (found .count) n
         (subst (λ (x : List Slot). Plans index x (nm .marks) (record { ops = take (found .count) (opsIn ops); numbers = ops; size = n })) items-are p) size
         (z .0 ∙ ap (λ (o : ℕ). configSize o (nm .labels)) (g .starts), z .1) few-slots in
-        subst (λ (x : Read). Ready (kept sh (meant s x)) s stood (nm .order) tags ops (laid (found .offset))) same
-        (subst (λ (o : ℕ). Ready (kept sh (meant s r)) s stood (nm .order) tags ops (laid o)) (sym (g .starts))
-        (subst (λ (l : List ℕ). Ready (kept sh (meant s r)) s l (nm .order) tags ops (laid (r .offset))) (sym labels-are) done))
+        subst (λ (x : Read). Ready (kept sh (meant s x)) s stood (nm .order) tags ops (measured (found .offset))) same
+        (subst (λ (o : ℕ). Ready (kept sh (meant s r)) s stood (nm .order) tags ops (measured o)) (sym (g .starts))
+        (subst (λ (l : List ℕ). Ready (kept sh (meant s r)) s l (nm .order) tags ops (measured (r .offset))) (sym labels-are) done))

@@ -31,8 +31,8 @@ use Rattle.scrub_sheet.specs.declared.Asked.{Asked}
 use Rattle.scrub_sheet.specs.declared.Asked.the-variants as K
 use Rattle.scrub_sheet.specs.Asked.{sheetAsked, asks, outcome}
 use Rattle.scrub_sheet.proofs.Header.{judged-outcome, judged-holds}
-use Rattle.scrub_config.specs.declared.Laid.{Laid}
-use Rattle.scrub_write.specs.Laid.{framed, sealed, Packed, laidOut, Packs}
+use Rattle.scrub_config.specs.declared.Measured.{Measured}
+use Rattle.scrub_write.specs.Packed.{framed, sealed, Packed, laidOut, Packs}
 use Rattle.pack_slots.specs.Slots.{slotsIn}
 use Rattle.pack_read.specs.declared.Outline.{Outline}
 use Rattle.pack_read.specs.Shown.{Outlined}
@@ -102,17 +102,17 @@ module _ (sheet s before : List ℕ) (x : Asked) (good : Good sheet x) {shows : 
 -- WRITING
 
 module _ {sheet s : List ℕ} (before : List ℕ) {x : Asked} {found : Found} {places : List ℕ} {items : List Slot} (g : Good sheet x) (a : Accepts s found places items)
-    {order tags ops : List ℕ} {laid : Laid} (made : (q : Read) → reading s ≡ fine q → Ready (kept (asks sheet x) (meant s q)) s places order tags ops laid) where
+    {order tags ops : List ℕ} {measured : Measured} (made : (q : Read) → reading s ≡ fine q → Ready (kept (asks sheet x) (meant s q)) s places order tags ops measured) where
   abbrev what : Said
   what = kept (asks sheet x) (meant s (a .read))
 
   abbrev whole : ℕ
-  whole = 16 + length (lengthBytes (laid .size)) + laid .size
+  whole = 16 + length (lengthBytes (measured .size)) + measured .size
 
-  ready : Ready what s places order tags ops laid
+  ready : Ready what s places order tags ops measured
   ready = made (a .read) (a .is)
 
-  pub packs : Packs s places order tags ops laid
+  pub packs : Packs s places order tags ops measured
   packs = ready .packs
 
   room-is : scrubbed sheet s (length before) ≡ roomFor (length before) (written what)
@@ -129,11 +129,11 @@ module _ {sheet s : List ℕ} (before : List ℕ) {x : Asked} {found : Found} {p
       record { told = rw z; run = rw z }
 
   pub wrote : (k : ℕ) (after : List ℕ) → whole ≤ length before → whole ≤ packCap
-      → Packed before (sealed (framed (laidOut s places order tags ops laid))) k after
+      → Packed before (sealed (framed (laidOut s places order tags ops measured))) k after
       → Scrubs sheet s before (A.Done k) after
   unfolding answered
   wrote k after fits cap p =
-      let e : sealed (framed (laidOut s places order tags ops laid)) ≡ written what =
+      let e : sealed (framed (laidOut s places order tags ops measured)) ≡ written what =
       ap (λ (l : List ℕ). sealed (framed l)) (ready .content) ∙ sym (written-bytes what) in
       let w = whole-is in
       let z : scrubbed sheet s (length before) ≡ fine (written what) = room-is ∙ room-enough (length before) (written what) (omega arith) (omega arith) in

@@ -34,7 +34,7 @@ use Rattle.scrub_names.proofs.Growing.{marks-few}
 use Rattle.scrub_ops.specs.declared.Op.{Op}
 use Rattle.scrub_ops.specs.Ops.{opsBytes, opsIn, OpFits}
 use Rattle.scrub_config.specs.Entries.{entriesAt, configAt, configSize, EntriesFit}
-use Rattle.scrub_write.specs.Laid.{contentAt}
+use Rattle.scrub_write.specs.Packed.{contentAt}
 use Rattle.scrub_config.proofs.Entries.{config-length}
 use Rattle.scrub_plan.specs.Planned.{Planned, planned, Plans, MarkFits}
 use Rattle.scrub.specs.Ready.{Ready}

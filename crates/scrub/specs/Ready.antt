@@ -17,8 +17,8 @@ use Rattle.scrub_kept.specs.Written.{contentOf}
 use Rattle.scrub_sheet.specs.declared.Asked.{Asked}
 use Rattle.scrub_sheet.specs.declared.Asked.the-variants as K
 use Rattle.scrub_sheet.specs.Asked.{asks, EntriesThere}
-use Rattle.scrub_config.specs.declared.Laid.{Laid}
-use Rattle.scrub_write.specs.Laid.{laidOut, Packs}
+use Rattle.scrub_config.specs.declared.Measured.{Measured}
+use Rattle.scrub_write.specs.Packed.{laidOut, Packs}
 use Rattle.scrub.specs.declared.Found.{Found}
 
 -- a sheet that is malformed
@@ -44,6 +44,6 @@ pub record Accepts (s : List ℕ) (found : Found) (places : List ℕ) (items : L
   pub counted : found .count ≡ countOf (read .body .parts)
 
 -- what these arrays and numbers lay out can be written, and is what is kept, k
-pub record Ready (k : Said) (s places order tags ops : List ℕ) (laid : Laid) : Type 0 where
-  pub packs : Packs s places order tags ops laid
-  pub content : laidOut s places order tags ops laid ≡ contentOf k
+pub record Ready (k : Said) (s places order tags ops : List ℕ) (measured : Measured) : Type 0 where
+  pub packs : Packs s places order tags ops measured
+  pub content : laidOut s places order tags ops measured ≡ contentOf k

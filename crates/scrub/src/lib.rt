@@ -11,7 +11,7 @@ ghost use Rattle.scrub.specs.Ready.{isRefused, Good, Accepts, Ready};
 ghost use Rattle.scrub.specs.Scrubs.{Scrubs};
 use refusals::Answer;
 use refusals::Refusal;
-use scrub_config::Laid;
+use scrub_config::Measured;
 use scrub_sheet::Asked;
 
 // The longest pack.
@@ -50,7 +50,7 @@ fn prepare(
     order: &mut [u32; 64],
     tags: &mut [u32; 64],
     ops: &mut [u32; 256],
-) -> Laid
+) -> Measured
     requires { ⌜ Accepts (now p) found (now places) (slotsIn (now slots)) × EntriesThere (now sheet) asked
         × (now order ≡ replicate 64 0) × (now tags ≡ replicate 64 0) × (now ops ≡ replicate 256 0) ⌝ }
     ensures { λ r. ⌜ ((q : Read) → reading (now (p .entry)) ≡ fine q
@@ -73,7 +73,7 @@ fn prepare(
     let index = scrub_names::by_index(order, tags, labels);
     let bytes = scrub_plan::plan_slots(slots, &marks, &index, found.count, &mut *ops);
     let size = scrub_config::config_size(found.offset, labels) + bytes as usize + 6;
-    Laid {
+    Measured {
         offset: found.offset,
         labels,
         writes: found.count,
@@ -97,7 +97,7 @@ fn write_kept(
     let mut order = [0u32; 64];
     let mut tags = [0u32; 64];
     let mut ops = [0u32; 256];
-    let laid = prepare(
+    let measured = prepare(
         sheet,
         asked,
         p,
@@ -108,7 +108,7 @@ fn write_kept(
         &mut tags,
         &mut ops,
     );
-    let size = laid.size;
+    let size = measured.size;
     let whole = 16 + numbers::length_size(size as u32) + size;
     if whole > out.len() {
         return Answer::Refused {
@@ -122,7 +122,7 @@ fn write_kept(
             place: 0,
         };
     }
-    let written = scrub_write::write_pack(p, laid, places, &order, &tags, &ops, out);
+    let written = scrub_write::write_pack(p, measured, places, &order, &tags, &ops, out);
     Answer::Done(written)
 }
 

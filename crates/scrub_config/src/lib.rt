@@ -8,8 +8,8 @@ ghost use Rattle.numbers.specs.Tags.{tagBytes};
 ghost use Rattle.pack_layout.specs.Layout.{entriesBytes};
 ghost use Rattle.scrub_config.specs.Entries.{entriesAt, configAt, configSize, EntriesFit};
 
-// What a pack is laid out by: its offset, how many labels it maps, how many writes it takes and the size of its value.
-pub struct Laid {
+// What is known of a pack before it is written: its offset, how many labels it maps, how many writes it takes and the size of its value.
+pub struct Measured {
     pub offset: u16,
     pub labels: usize,
     pub writes: usize,
@@ -67,19 +67,19 @@ fn write_mappings(
 // Config, if there is one: tag, length, pack offset, mappings.
 pub fn write_config(
     p: &[u8],
-    laid: Laid,
+    measured: Measured,
     places: &[u32],
     order: &[u32],
     tags: &[u32],
     out: &mut [u8],
     at: usize,
 ) -> usize
-    requires { ⌜ (laid .labels ≤ 64) × (length (take (laid .labels) (now order)) ≡ laid .labels) × EntriesFit (now p) (now places) (take (laid .labels) (now order)) (now tags)
-        × (at + length (configAt (now p) (laid .offset) (now places) (take (laid .labels) (now order)) (now tags)) ≤ length (now out)) ⌝ }
-    ensures { λ r. ⌜ Wrote (now (out .entry)) at (configAt (now (p .entry)) (laid .offset) (now (places .entry)) (take (laid .labels) (now (order .entry))) (now (tags .entry))) r (now (out .exit)) ⌝ }
+    requires { ⌜ (measured .labels ≤ 64) × (length (take (measured .labels) (now order)) ≡ measured .labels) × EntriesFit (now p) (now places) (take (measured .labels) (now order)) (now tags)
+        × (at + length (configAt (now p) (measured .offset) (now places) (take (measured .labels) (now order)) (now tags)) ≤ length (now out)) ⌝ }
+    ensures { λ r. ⌜ Wrote (now (out .entry)) at (configAt (now (p .entry)) (measured .offset) (now (places .entry)) (take (measured .labels) (now (order .entry))) (now (tags .entry))) r (now (out .exit)) ⌝ }
 {
-    let offset = laid.offset;
-    let count = laid.labels;
+    let offset = measured.offset;
+    let count = measured.labels;
     if count + offset as usize == 0 {
         return at;
     }

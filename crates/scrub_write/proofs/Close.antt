@@ -12,7 +12,7 @@ use Rattle.runs.proofs.Over.{take-over, over-over, wrote-byte, wrote-then, wrot
 use Rattle.crc.specs.Crc.{crcOf}
 use Rattle.refusals.specs.Outcomes.{fine}
 use Rattle.scrub_kept.specs.Scrubbed.{leaves}
-use Rattle.scrub_write.specs.Laid.{sealed, Packed}
+use Rattle.scrub_write.specs.Packed.{sealed, Packed}
 
 -- a run up to the end of the list
 over-end : (xs : List ℕ) (a : ℕ) (ys : List ℕ) → a + length ys ≡ length xs → over xs a ys ≡ take a xs ++ ys

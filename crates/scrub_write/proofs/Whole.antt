@@ -10,7 +10,7 @@ use Rattle.runs.proofs.Writing.{Writing, writing-begins}
 use Rattle.numbers.specs.Lengths.{lengthBytes}
 use Rattle.pack.specs.Fixed.{key}
 use Rattle.scrub_kept.specs.Scrubbed.{leaves}
-use Rattle.scrub_write.specs.Laid.{framed, sealed, Packed}
+use Rattle.scrub_write.specs.Packed.{framed, sealed, Packed}
 
 -- key and length
 abbrev pub starts : ℕ → List ℕ

@@ -5,8 +5,8 @@ ghost use lib.ListN.{length, take};
 ghost use Rattle.runs.specs.Over.{Wrote};
 ghost use Rattle.numbers.specs.Lengths.{lengthBytes};
 ghost use Rattle.pack.specs.Fixed.{key};
-ghost use Rattle.scrub_write.specs.Laid.{framed, sealed, Packed, laidOut, Packs};
-use scrub_config::Laid;
+ghost use Rattle.scrub_write.specs.Packed.{framed, sealed, Packed, laidOut, Packs};
+use scrub_config::Measured;
 
 const KEY: [u8; 16] = [
     0x06,
@@ -54,22 +54,22 @@ fn write_close(out: &mut [u8], at: usize) -> usize
 // The whole pack, and 0 to the buffer's end.
 pub fn write_pack(
     p: &[u8],
-    laid: Laid,
+    measured: Measured,
     places: &[u32; 32],
     order: &[u32; 64],
     tags: &[u32; 64],
     ops: &[u32; 256],
     out: &mut [u8],
 ) -> usize
-    requires { ⌜ Packs (now p) (now places) (now order) (now tags) (now ops) laid × (16 + length (lengthBytes (laid .size)) + laid .size ≤ length (now out)) ⌝ }
-    ensures { λ r. ⌜ Packed (now (out .entry)) (sealed (framed (laidOut (now (p .entry)) (now (places .entry)) (now (order .entry)) (now (tags .entry)) (now (ops .entry)) laid))) r (now (out .exit)) ⌝ }
+    requires { ⌜ Packs (now p) (now places) (now order) (now tags) (now ops) measured × (16 + length (lengthBytes (measured .size)) + measured .size ≤ length (now out)) ⌝ }
+    ensures { λ r. ⌜ Packed (now (out .entry)) (sealed (framed (laidOut (now (p .entry)) (now (places .entry)) (now (order .entry)) (now (tags .entry)) (now (ops .entry)) measured))) r (now (out .exit)) ⌝ }
 {
     // slices, whose lengths are known
     let places: &[u32] = places;
     let order: &[u32] = order;
     let tags: &[u32] = tags;
-    let a = write_start(out, laid.size);
-    let b = scrub_config::write_config(p, laid, places, order, tags, out, a);
-    let c = scrub_ops::write_ops(p, ops, laid.writes, out, b);
+    let a = write_start(out, measured.size);
+    let b = scrub_config::write_config(p, measured, places, order, tags, out, a);
+    let c = scrub_ops::write_ops(p, ops, measured.writes, out, b);
     write_close(out, c)
 }

@@ -19,14 +19,14 @@ use Rattle.scrub_config.proofs.write_config.Tie as tie
 
 -- the labels that are mapped
 abbrev mapped : tie.Start → List ℕ
-mapped b = take (b .args .laid .labels) (b .args .order .now)
+mapped b = take (b .args .measured .labels) (b .args .order .now)
 
 -- the bytes of the length, of the offset and of the mappings
 abbrev size : tie.Start → List ℕ
-size b = lengthBytes (2 + 17 * b .args .laid .labels)
+size b = lengthBytes (2 + 17 * b .args .measured .labels)
 
 abbrev offset : tie.Start → List ℕ
-offset b = digits 256 2 (b .args .laid .offset)
+offset b = digits 256 2 (b .args .measured .offset)
 
 abbrev mappings : tie.Start → List ℕ
 mappings b = entriesBytes (entriesAt (b .args .p .now) (b .args .places .now) (mapped b) (b .args .tags .now))
@@ -34,7 +34,7 @@ mappings b = entriesBytes (entriesAt (b .args .p .now) (b .args .places .now) (m
 -- what is still to be written into the buffer us
 abbrev Going : tie.Start → List ℕ → ℕ → List ℕ → Type 0
 Going b us at left =
-    Writing (b .args .out .now) (b .args .at) (configAt (b .args .p .now) (b .args .laid .offset) (b .args .places .now) (mapped b) (b .args .tags .now)) us at left
+    Writing (b .args .out .now) (b .args .at) (configAt (b .args .p .now) (b .args .measured .offset) (b .args .places .now) (mapped b) (b .args .tags .now)) us at left
 
 -- where the call began, seen from where there is a Config
 abbrev start : tie.Else1 → tie.Start
@@ -43,8 +43,8 @@ start e = e .before .before .before .before .before .before
 begun : (e : tie.Else1) → let b = start e in Going b (b .args .out .now) (b .args .at) (tagBytes 1 ++ (size b ++ (offset b ++ mappings b)))
 begun e =
     let b = start e in
-    config-begins (b .args .p .now) (b .args .laid .offset) (b .args .places .now) (mapped b) (b .args .tags .now) (b .pre .2) (b .args .out .now) (b .args .at)
-    (b .args .laid .labels) (sym (b .pre .1)) (λ x y. e .if1 .left (omega (arith, b .pre .1))) (b .pre .3)
+    config-begins (b .args .p .now) (b .args .measured .offset) (b .args .places .now) (mapped b) (b .args .tags .now) (b .pre .2) (b .args .out .now) (b .args .at)
+    (b .args .measured .labels) (sym (b .pre .1)) (λ x y. e .if1 .left (omega (arith, b .pre .1))) (b .pre .3)
 
 abbrev some : tie.After-write-tag → tie.Else1
 some k = k .before .before
@@ -69,7 +69,7 @@ returns : tie.Need-returns
 returns c =
     let b = c .before .before .before .before .before .before in
     let n = b .pre .1 in
-    config-skipped (b .args .p .now) (b .args .laid .offset) (b .args .places .now) (mapped b) (b .args .tags .now) (b .pre .2) (b .args .out .now) (b .args .at)
+    config-skipped (b .args .p .now) (b .args .measured .offset) (b .args .places .now) (mapped b) (b .args .tags .now) (b .pre .2) (b .args .out .now) (b .args .at)
     (omega arith) (omega arith)
 
 write-tag-requires : tie.Need-write-tag-requires
@@ -90,7 +90,7 @@ write-be16-requires c κs =
     let k = c .before .before .before in
     let b = start (some (tagged k)) in
     let r = room-for (offset b) (mappings b) (after-length k) in
-    let g = length-digits 256 2 (b .args .laid .offset) in
+    let g = length-digits 256 2 (b .args .measured .offset) in
     omega arith
 
 write-mappings-requires : tie.Need-write-mappings-requires

@@ -15,20 +15,20 @@ use Rattle.scrub_write.proofs.write_pack.Tie as tie
 
 -- the bytes of Config and of the writes
 abbrev config : tie.Start → List ℕ
-config b = configAt (b .args .p .now) (b .args .laid .offset) (b .args .places .now) (take (b .args .laid .labels) (b .args .order .now)) (b .args .tags .now)
+config b = configAt (b .args .p .now) (b .args .measured .offset) (b .args .places .now) (take (b .args .measured .labels) (b .args .order .now)) (b .args .tags .now)
 
 abbrev writes : tie.Start → List ℕ
-writes b = opsBytes (b .args .p .now) (take (b .args .laid .writes) (opsIn (b .args .ops .now)))
+writes b = opsBytes (b .args .p .now) (take (b .args .measured .writes) (opsIn (b .args .ops .now)))
 
 -- what is written before the end, and what of it is still to be written into the buffer us
 abbrev whole : tie.Start → List ℕ
-whole b = starts (b .args .laid .size) ++ (config b ++ writes b)
+whole b = starts (b .args .measured .size) ++ (config b ++ writes b)
 
 abbrev Going : tie.Start → List ℕ → ℕ → List ℕ → Type 0
 Going b us at left = Writing (b .args .out .now) 0 (whole b) us at left
 
 begun : (b : tie.Start) → Going b (b .args .out .now) 0 (whole b)
-begun b = whole-begins (b .args .out .now) (b .args .laid .size) (config b) (writes b) (b .pre .0 .counted) (b .pre .1)
+begun b = whole-begins (b .args .out .now) (b .args .measured .size) (config b) (writes b) (b .pre .0 .counted) (b .pre .1)
 
 abbrev start : tie.After-write-start → tie.Start
 start k = k .before .before .before .before .before .before .before
@@ -68,8 +68,8 @@ write-close-requires c κs =
     let n = w .next in
     let e = b .pre .0 .counted in
     let h = b .pre .1 in
-    let l = starts-length (b .args .laid .size) in
-    let a = length-append (starts (b .args .laid .size)) (config b ++ writes b) in
+    let l = starts-length (b .args .measured .size) in
+    let a = length-append (starts (b .args .measured .size)) (config b ++ writes b) in
     let m = wrote-length {at = 0} (omega arith) w in
     omega arith
 
@@ -77,7 +77,7 @@ returns : tie.Need-returns
 returns c =
     let k = c .before .before .before .before .before .before in
     let b = start (started (configured k)) in
-    whole-ends (b .args .laid .size) (config b ++ writes b) (b .pre .0 .counted) (b .pre .1) (after-writes k) (c .before .before .write-close .ensures)
+    whole-ends (b .args .measured .size) (config b ++ writes b) (b .pre .0 .counted) (b .pre .1) (after-writes k) (c .before .before .write-close .ensures)
 
 pub write-pack-spec : {M : Type 1} → statement M
 write-pack-spec =

@@ -12,7 +12,7 @@ use Rattle.pack.specs.Fixed.{key}
 use Rattle.scrub_kept.specs.Scrubbed.{leaves}
 use Rattle.scrub_ops.specs.declared.Op.{Op}
 use Rattle.scrub_ops.specs.Ops.{opsIn, opsBytes, OpFits}
-use Rattle.scrub_config.specs.declared.Laid.{Laid}
+use Rattle.scrub_config.specs.declared.Measured.{Measured}
 use Rattle.scrub_config.specs.Entries.{configAt, EntriesFit}
 
 -- key, length, content, and the CRC's tag and length
@@ -33,14 +33,14 @@ abbrev pub contentAt : List ℕ → ℕ → List ℕ → List ℕ → List ℕ �
 contentAt s offset places order tags ops = configAt s offset places order tags ++ opsBytes s ops
 
 -- the same of the pack that these arrays and numbers lay out
-abbrev pub laidOut : List ℕ → List ℕ → List ℕ → List ℕ → List ℕ → Laid → List ℕ
-laidOut s places order tags ops laid = contentAt s (laid .offset) places (take (laid .labels) order) tags (take (laid .writes) (opsIn ops))
+abbrev pub laidOut : List ℕ → List ℕ → List ℕ → List ℕ → List ℕ → Measured → List ℕ
+laidOut s places order tags ops measured = contentAt s (measured .offset) places (take (measured .labels) order) tags (take (measured .writes) (opsIn ops))
 
 -- a pack that can be written: its parts can, and its size is known
-pub record Packs (s places order tags ops : List ℕ) (laid : Laid) : Type 0 where
-  pub few : (laid .labels ≤ 64) × (laid .writes ≤ 64)
-  pub mapped : length (take (laid .labels) order) ≡ laid .labels
-  pub entries : EntriesFit s places (take (laid .labels) order) tags
-  pub writes : Each (OpFits s) (take (laid .writes) (opsIn ops))
-  pub counted : laid .size ≡ length (laidOut s places order tags ops laid) + 6
-  pub small : laid .size < 4000000
+pub record Packs (s places order tags ops : List ℕ) (measured : Measured) : Type 0 where
+  pub few : (measured .labels ≤ 64) × (measured .writes ≤ 64)
+  pub mapped : length (take (measured .labels) order) ≡ measured .labels
+  pub entries : EntriesFit s places (take (measured .labels) order) tags
+  pub writes : Each (OpFits s) (take (measured .writes) (opsIn ops))
+  pub counted : measured .size ≡ length (laidOut s places order tags ops measured) + 6
+  pub small : measured .size < 4000000
