@@ -20,7 +20,7 @@ use Rattle.pack.proofs.Slots.{slots-taken}
 use Rattle.pack_layout.proofs.Shown.{slots-fit}
 use Rattle.scrub_kept.specs.Sheet.{Sheet}
 use Rattle.scrub_kept.specs.Kept.{kept}
-use Rattle.scrub_names.specs.declared.Mark.{Mark}
+use Rattle.scrub_marks.specs.declared.Mark.{Mark}
 use Rattle.scrub_names.specs.Marks.{Names, flagsOf, marksOf, Noted, HasLabel}
 use Rattle.scrub_names.specs.Given.{given, byIndex}
 use Rattle.scrub_config.specs.declared.Measured.{Measured}

@@ -28,8 +28,8 @@ use Rattle.scrub_kept.specs.Kept.{keeps, keptPayloads, keptSync, keptItems}
 use Rattle.scrub_kept.specs.Written.{numbersIn, labelsIn, tagFor}
 use Rattle.scrub_kept.proofs.Listed.{never, listed-here, listed-more}
 use Rattle.scrub_kept.proofs.Labels.{LabelsApart}
-use Rattle.scrub_names.specs.declared.Mark.{Mark}
-use Rattle.scrub_names.specs.declared.Mark.the-variants as M
+use Rattle.scrub_marks.specs.declared.Mark.{Mark}
+use Rattle.scrub_marks.specs.declared.Mark.the-variants as M
 use Rattle.scrub_names.specs.Marks.{markName, markItem, marksOf, keptNumbers, keptLabels}
 use Rattle.scrub_plan.specs.Planned.{tagOf, slotPlan, Planned, joined, planned}
 use Rattle.scrub.proofs.Flat.{tagItem, planBy, newTag}

@@ -26,8 +26,8 @@ use Rattle.scrub_kept.specs.Written.{free, assigned, entries, entriesOf, asConf
 use Rattle.runs.proofs.Those.{each-map, each-same, each-append}
 use Rattle.scrub_kept.proofs.Free.{free-range}
 use Rattle.scrub_kept.proofs.ReadBack.{kept-few}
-use Rattle.scrub_names.specs.declared.Mark.{Mark}
-use Rattle.scrub_names.specs.declared.Mark.the-variants as M
+use Rattle.scrub_marks.specs.declared.Mark.{Mark}
+use Rattle.scrub_marks.specs.declared.Mark.the-variants as M
 use Rattle.scrub_names.specs.Marks.{Names, flagsOf, markItem, marksOf, keptNumbers, keptLabels, Noted}
 use Rattle.scrub_names.specs.Given.{given, byIndex}
 use Rattle.scrub_names.proofs.Growing.{marks-few}

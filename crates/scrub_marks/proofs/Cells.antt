@@ -10,9 +10,9 @@ use Rattle.runs.proofs.Over.{stores-at}
 use Rattle.runs.proofs.Cells.{Local, local-first, length-cells, cell-at}
 use Rattle.runs.proofs.Own.{own-none, puts, own-put}
 use Rattle.pack.specs.Fixed.{itemCap}
-use Rattle.scrub_names.specs.declared.Mark.{Mark}
-use Rattle.scrub_names.specs.declared.Mark.the-variants as M
-use Rattle.scrub_names.specs.Marks.{markNumbers, markAt, marksIn}
+use Rattle.scrub_marks.specs.declared.Mark.{Mark}
+use Rattle.scrub_marks.specs.declared.Mark.the-variants as M
+use Rattle.scrub_marks.specs.Marks.{markNumbers, markAt, marksIn}
 
 pub length-marks : (s : List ℕ) → length (marksIn s) ≡ 64
 length-marks s = length-cells markAt 2 itemCap s

@@ -10,8 +10,8 @@ use lib.Dec.{eqb}
 use Rattle.runs.specs.Same.{among}
 use Rattle.runs.proofs.Cases.{split}
 use Rattle.scrub_kept.proofs.Firsts.{Silent, Firsts, silent-last, named-last}
-use Rattle.scrub_names.specs.declared.Mark.{Mark}
-use Rattle.scrub_names.specs.declared.Mark.the-variants as M
+use Rattle.scrub_marks.specs.declared.Mark.{Mark}
+use Rattle.scrub_marks.specs.declared.Mark.the-variants as M
 use Rattle.scrub_names.specs.Marks.{keptNumbers, keptLabels}
 
 pub among-last : (n t : ℕ) (xs : List ℕ) → among n (xs ++ (t ∷ [])) ≡ among n xs || eqb t n

@@ -1,5 +1,4 @@
 pub mod Padded
-pub mod Cells
 pub mod Growing
 pub mod Noting
 pub mod Naming

@@ -19,7 +19,7 @@ use Rattle.pack.specs.Fits.{NameFits, ItemFits}
 use Rattle.pack.proofs.Padded.{set-padded}
 use Rattle.scrub_kept.specs.Sheet.{Sheet}
 use Rattle.scrub_kept.specs.Kept.{keeps}
-use Rattle.scrub_names.specs.declared.Mark.the-variants as M
+use Rattle.scrub_marks.specs.declared.Mark.the-variants as M
 use Rattle.scrub_names.specs.Marks.{markName, markItem}
 use Rattle.scrub_names.specs.Given.{clearFrom, clearAt, given, byIndex}
 

@@ -15,13 +15,14 @@ use Rattle.runs.proofs.Cases.{split}
 use Rattle.pack.specs.Fixed.{itemCap}
 use Rattle.pack.specs.Slots.{padded}
 use Rattle.pack.specs.declared.Slot.{Slot}
-use Rattle.scrub_names.specs.declared.Mark.{Mark}
-use Rattle.scrub_names.specs.declared.Mark.the-variants as M
-use Rattle.scrub_names.specs.Marks.{keptNumbers, keptLabels, markNumbers, markAt, marksIn, Noted}
+use Rattle.scrub_marks.specs.declared.Mark.{Mark}
+use Rattle.scrub_marks.specs.declared.Mark.the-variants as M
+use Rattle.scrub_marks.specs.Marks.{markNumbers, markAt, marksIn}
+use Rattle.scrub_names.specs.Marks.{keptNumbers, keptLabels, Noted}
 use Rattle.runs.proofs.Bools.{or-false, or-true}
 use Rattle.pack.proofs.Padded.{set-padded}
 use Rattle.scrub_names.proofs.Padded.{map-next}
-use Rattle.scrub_names.proofs.Cells.{marks-none, own-nothing, own-mark}
+use Rattle.scrub_marks.proofs.Cells.{marks-none, own-nothing, own-mark}
 use Rattle.scrub_names.proofs.Growing.{among-last, numbers-append, numbers-same, labels-same, labels-seen, labels-new, marks-few}
 
 outside : (t k : ℕ) → (t < 64) ⊎ (128 ≤ t) → k < 64 → t ≡ 64 + k → ⊥

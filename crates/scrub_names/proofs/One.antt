@@ -5,7 +5,7 @@ use mathlib.Core.Bool.{false}
 use native.Mathlib.Omega.{arith}
 use lib.Seq.{ext-getD}
 use Rattle.runs.proofs.Cases.{one}
-use Rattle.scrub_names.specs.declared.Mark.{Mark}
+use Rattle.scrub_marks.specs.declared.Mark.{Mark}
 use Rattle.scrub_names.specs.Marks.{Names, Noted}
 
 pub noted-one : {ms : List Mark} {a b : Names} → Noted ms a → Noted ms b

@@ -3,10 +3,9 @@ use mathlib.Core.Path.{_≡_}
 use mathlib.Core.List.{List, [], _∷_, map}
 use mathlib.Core.Bool.{Bool, false, cond}
 use Prim.Native.Nat.{ℕ, _+_, _<_, _≤_}
-use lib.Dec.{eqb}
 use lib.ListN.{length, take, drop, getD}
 use Rattle.runs.specs.Same.{among}
-use Rattle.runs.specs.Cells.{cells, numbersOf}
+use Rattle.runs.specs.Cells.{numbersOf}
 use Rattle.pack.specs.declared.Name.{Name}
 use Rattle.pack.specs.declared.Name.the-variants as N
 use Rattle.pack.specs.declared.Item.{Item}
@@ -17,8 +16,9 @@ use Rattle.pack.specs.Said.{label, number}
 use Rattle.pack.specs.Slots.{padded}
 use Rattle.scrub_kept.specs.Sheet.{Sheet}
 use Rattle.scrub_kept.specs.Kept.{keeps}
-use Rattle.scrub_names.specs.declared.Mark.{Mark}
-use Rattle.scrub_names.specs.declared.Mark.the-variants as M
+use Rattle.scrub_marks.specs.Marks.{markNumbers}
+use Rattle.scrub_marks.specs.declared.Mark.{Mark}
+use Rattle.scrub_marks.specs.declared.Mark.the-variants as M
 
 -- for each label of the pack s whether the sheet keeps it; `places` says where they stand
 abbrev pub flagsOf : Sheet → List ℕ → List ℕ → List Bool
@@ -51,20 +51,6 @@ keptLabels seen [] = []
 keptLabels seen (M.Gone ∷ r) = keptLabels seen r
 keptLabels seen (M.Number t ∷ r) = keptLabels seen r
 keptLabels seen (M.Label i ∷ r) = cond (among i seen) (keptLabels seen r) (i ∷ keptLabels (i ∷ seen) r)
-
--- the two numbers of a mark: 0 for what goes, 1 and the number, 2 and the label
-unfoldable pub markNumbers : Mark → List ℕ
-markNumbers M.Gone = 0 ∷ 0 ∷ []
-markNumbers (M.Number t) = 1 ∷ t ∷ []
-markNumbers (M.Label i) = 2 ∷ i ∷ []
-
--- and back: the mark whose two numbers stand at `at`
-unfoldable pub markAt : List ℕ → ℕ → Mark
-markAt s at = cond (eqb (getD s at 0) 1) (M.Number (getD s (at + 1) 0)) (cond (eqb (getD s at 0) 2) (M.Label (getD s (at + 1) 0)) M.Gone)
-
--- the marks of an array of numbers
-abbrev pub marksIn : List ℕ → List Mark
-marksIn s = cells markAt 2 itemCap s
 
 -- the marks of the slots and the array of their numbers, the kept labels in order of first appearance and how many they are, and which of the
 -- numbers 64 to 127 are kept

@@ -1,29 +1,21 @@
 // What a sheet keeps of a reading, and the tags that kept labels get.
 ghost use mathlib.Core.Path.{_≡_};
 ghost use mathlib.Core.Bool.{false};
-ghost use mathlib.Core.List.{[], _∷_};
-ghost use Prim.Native.Nat.{ℕ, _+_, _*_, _<_, _≤_};
-ghost use lib.ListN.{length, take, replicate};
-ghost use Rattle.runs.specs.Over.{over};
-ghost use Rattle.runs.specs.Cells.{Puts};
+ghost use Prim.Native.Nat.{ℕ, _+_, _<_, _≤_};
+ghost use lib.ListN.{take, replicate};
 ghost use Rattle.runs.specs.Those.{Each};
 ghost use Rattle.pack.specs.Fixed.{itemCap, mappingCap};
 ghost use Rattle.pack.specs.Slots.{padded};
 ghost use Rattle.pack.specs.Fits.{NameFits, ItemFits, SlotsFit};
 ghost use Rattle.pack_slots.specs.Slots.{slotsIn};
 ghost use Rattle.scrub_sheet.specs.Asked.{asks, EntriesThere, Short};
-ghost use Rattle.scrub_names.specs.Marks.{flagsOf, markName, markItem, marksOf, markNumbers, markAt, marksIn, Noted, HasLabel};
+ghost use Rattle.scrub_marks.specs.Marks.{marksIn};
+ghost use Rattle.scrub_names.specs.Marks.{flagsOf, markName, markItem, marksOf, Noted, HasLabel};
 ghost use Rattle.scrub_names.specs.Given.{clearAt, given, byIndex};
 use pack::Item;
 use pack::Name;
+use scrub_marks::Mark;
 use scrub_sheet::Asked;
-
-// A slot of a reading that goes, or that stays under a number or under the label of a mapping. A Sync has no name.
-pub enum Mark {
-    Gone,
-    Number(u32),
-    Label(u32),
-}
 
 // For each label of the pack whether the sheet keeps it.
 pub fn flags(s: &[u8], asked: Asked, p: &[u8], places: &[u32; 32], mapped: usize) -> [bool; 32]
@@ -80,43 +72,6 @@ fn mark_item(s: &[u8], asked: Asked, flags: &[bool; 32], short: &[bool; 128], it
     }
 }
 
-fn put_two(out: &mut [u32], at: usize, first: u32, second: u32)
-    requires { ⌜ at + 2 ≤ length (now out) ⌝ }
-    ensures { λ _. ⌜ now (out .exit) ≡ over (now (out .entry)) at (first ∷ second ∷ []) ⌝ }
-{
-    out[at] = first;
-    out[at + 1] = second;
-}
-
-// Puts a mark into the cell `i`.
-fn put_mark(marks: &mut [u32; 128], i: usize, mark: Mark)
-    requires { ⌜ i < itemCap ⌝ }
-    ensures { λ _. ⌜ Puts markAt markNumbers 2 itemCap (now (marks .entry)) i mark (now (marks .exit)) ⌝ }
-{
-    match mark {
-        Mark::Gone => put_two(marks, 2 * i, 0, 0),
-        Mark::Number(t) => put_two(marks, 2 * i, 1, t),
-        Mark::Label(k) => put_two(marks, 2 * i, 2, k),
-    }
-}
-
-// The mark in the cell `i`.
-pub fn mark_in(marks: &[u32; 128], i: usize) -> Mark
-    requires { ⌜ i < itemCap ⌝ }
-    ensures { λ r. ⌜ r ≡ markAt (now (marks .entry)) (2 * i) ⌝ }
-{
-    let at = 2 * i;
-    let kind = marks[at];
-    let number = marks[at + 1];
-    if kind == 1 {
-        return Mark::Number(number);
-    }
-    if kind == 2 {
-        return Mark::Label(number);
-    }
-    Mark::Gone
-}
-
 // Marks the first `count` slots of a reading: fills `marks`, `order` with the kept labels in order of first appearance, and `taken` with which of
 // the numbers 64 to 127 are kept. All three come empty. The answer is how many labels are kept.
 pub fn note(
@@ -139,7 +94,7 @@ pub fn note(
     while i < count {
         let item = pack_slots::item(slots, i);
         let mark = mark_item(s, asked, flags, &short, item);
-        put_mark(&mut *marks, i, mark);
+        scrub_marks::put_mark(&mut *marks, i, mark);
         i += 1;
         match mark {
             Mark::Gone => {}

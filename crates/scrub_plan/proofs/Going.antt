@@ -7,7 +7,7 @@ use lib.ListN.{length, take, drop, getD, set, replicate, length-replicate, repli
 use lib.Seq.{drop-cons, set-at, take-at}
 use Rattle.runs.specs.Cells.{numbersOf, Puts, Own}
 use Rattle.pack.specs.declared.Slot.{Slot}
-use Rattle.scrub_names.specs.declared.Mark.{Mark}
+use Rattle.scrub_marks.specs.declared.Mark.{Mark}
 use Rattle.scrub_ops.specs.declared.Op.the-variants.{Skip}
 use Rattle.scrub_ops.specs.declared.Op.{Op}
 use Rattle.scrub_ops.specs.Ops.{opNumbers, opAt, opsIn}

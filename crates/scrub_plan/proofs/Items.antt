@@ -13,8 +13,8 @@ use Rattle.pack.specs.declared.Payload.{Payload}
 use Rattle.pack.specs.declared.Head.{Head}
 use Rattle.pack.specs.declared.Item.{Item}
 use Rattle.pack.specs.declared.Item.the-variants as I
-use Rattle.scrub_names.specs.declared.Mark.{Mark}
-use Rattle.scrub_names.specs.declared.Mark.the-variants as M
+use Rattle.scrub_marks.specs.declared.Mark.{Mark}
+use Rattle.scrub_marks.specs.declared.Mark.the-variants as M
 use Rattle.scrub_ops.specs.declared.Op.the-variants.{Skip, Put, Open}
 use Rattle.numbers.proofs.Lengths.{length-small}
 use Rattle.scrub_plan.specs.declared.SlotPlan.{SlotPlan}

@@ -4,7 +4,7 @@ use mathlib.Core.List.{List}
 use Prim.Native.Nat.{ℕ}
 use Rattle.runs.proofs.Cases.{one}
 use Rattle.pack.specs.declared.Slot.{Slot}
-use Rattle.scrub_names.specs.declared.Mark.{Mark}
+use Rattle.scrub_marks.specs.declared.Mark.{Mark}
 use Rattle.scrub_plan.specs.Planned.{Plan, Plans}
 
 pub plans-one : {index : List ℕ} {xs : List Slot} {ms : List Mark} {a b : Plan} → Plans index xs ms a → Plans index xs ms b → (a .numbers ≡ b .numbers) × (a .size ≡ b .size)

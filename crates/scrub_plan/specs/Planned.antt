@@ -13,8 +13,8 @@ use Rattle.pack.specs.declared.Item.the-variants as I
 use Rattle.pack.specs.declared.Slot.{Slot}
 use Rattle.pack.specs.Fixed.{packCap, mappingCap, itemCap}
 use Rattle.pack.specs.Slots.{padded}
-use Rattle.scrub_names.specs.declared.Mark.{Mark}
-use Rattle.scrub_names.specs.declared.Mark.the-variants as M
+use Rattle.scrub_marks.specs.declared.Mark.{Mark}
+use Rattle.scrub_marks.specs.declared.Mark.the-variants as M
 use Rattle.scrub_ops.specs.declared.Op.the-variants.{Skip, Put, Open}
 use Rattle.scrub_ops.specs.declared.Op.{Op}
 use Rattle.scrub_ops.specs.Ops.{opNumbers}

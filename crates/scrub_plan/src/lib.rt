@@ -4,14 +4,14 @@ ghost use Prim.Native.Nat.{_+_, _≤_};
 ghost use lib.ListN.{take, replicate};
 ghost use Rattle.runs.specs.Those.{Each};
 ghost use Rattle.pack_slots.specs.Slots.{slotsIn};
-ghost use Rattle.scrub_names.specs.Marks.{marksIn};
+ghost use Rattle.scrub_marks.specs.Marks.{marksIn};
 ghost use Rattle.scrub_ops.specs.Ops.{opsIn};
 ghost use Rattle.scrub_plan.specs.Planned.{tagOf, sized, slotPlan, Plans, ItemSmall, SlotSmall, MarkFits};
 ghost use Rattle.pack.specs.declared.Item.the-variants as I;
 use pack::Head;
 use pack::Item;
 use pack::Payload;
-use scrub_names::Mark;
+use scrub_marks::Mark;
 use scrub_ops::Op;
 
 // What a slot adds: its write, the bytes inside a Sync that is still to come, and its size.
@@ -125,7 +125,7 @@ pub fn plan_slots(
     while i > 0 {
         i -= 1;
         let item = pack_slots::item(slots, i);
-        let mark = scrub_names::mark_in(marks, i);
+        let mark = scrub_marks::mark_in(marks, i);
         let tag = tag_of(mark, index);
         let plan = plan_slot(item, tag, inner);
         let op = plan.op;

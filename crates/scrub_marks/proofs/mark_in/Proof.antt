@@ -1,9 +1,9 @@
--- `scrub_names::mark_in` meets its contract. By the kind.
+-- `scrub_marks::mark_in` meets its contract. By the kind.
 use borrow.Author.Needs.{needs}
 use borrow.Author.Tests.{eq-eqb, ne-eqb}
-use Rattle.scrub_names.specs.Marks.{markAt}
-use Rattle.scrub_names.proofs.mark_in.Statement.{statement}
-use Rattle.scrub_names.proofs.mark_in.Tie as tie
+use Rattle.scrub_marks.specs.Marks.{markAt}
+use Rattle.scrub_marks.proofs.mark_in.Statement.{statement}
+use Rattle.scrub_marks.proofs.mark_in.Tie as tie
 
 returns : tie.Need-returns
 unfolding markAt

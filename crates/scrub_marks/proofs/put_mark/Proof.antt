@@ -1,10 +1,10 @@
--- `scrub_names::put_mark` meets its contract. By the mark.
+-- `scrub_marks::put_mark` meets its contract. By the mark.
 use borrow.Author.Needs.{needs}
 use mathlib.Core.Path.{sym, ap}
-use Rattle.scrub_names.specs.Marks.{markNumbers}
-use Rattle.scrub_names.proofs.Cells.{marks-put}
-use Rattle.scrub_names.proofs.put_mark.Statement.{statement}
-use Rattle.scrub_names.proofs.put_mark.Tie as tie
+use Rattle.scrub_marks.specs.Marks.{markNumbers}
+use Rattle.scrub_marks.proofs.Cells.{marks-put}
+use Rattle.scrub_marks.proofs.put_mark.Statement.{statement}
+use Rattle.scrub_marks.proofs.put_mark.Tie as tie
 
 returns : tie.Need-returns
 unfolding markNumbers

@@ -1,10 +1,10 @@
--- `scrub_names::put_two` meets its contract: two stores.
+-- `scrub_marks::put_two` meets its contract: two stores.
 use borrow.Author.Needs.{needs}
 use lib.ListN.{length-set}
 use native.Mathlib.Omega.{arith}
-use Rattle.scrub_names.proofs.Cells.{stored-two}
-use Rattle.scrub_names.proofs.put_two.Statement.{statement}
-use Rattle.scrub_names.proofs.put_two.Tie as tie
+use Rattle.scrub_marks.proofs.Cells.{stored-two}
+use Rattle.scrub_marks.proofs.put_two.Statement.{statement}
+use Rattle.scrub_marks.proofs.put_two.Tie as tie
 
 slice-write-out-2 : tie.Need-slice-write-out-2
 slice-write-out-2 c = simp length-set (omega arith)

@@ -1,5 +1,5 @@
 -- `scrub_names::note` meets its contract. The loop keeps the arrays that the marks so far make.
-use Rattle.scrub_names.specs.declared.Mark.the-variants as M
+use Rattle.scrub_marks.specs.declared.Mark.the-variants as M
 use mathlib.Core.Path.{_≡_, sym, ap, _∙_}
 use mathlib.Core.Logic.{inl, inr}
 use Prim.Native.Nat.{ℕ, _-_, _<_}

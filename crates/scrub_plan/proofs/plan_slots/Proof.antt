@@ -10,9 +10,9 @@ use Rattle.pack.specs.declared.Item.{Item}
 use Rattle.pack.specs.declared.Slot.{Slot}
 use Rattle.pack_slots.specs.Slots.{slotsIn}
 use Rattle.pack_slots.proofs.Laws.{length-in, slot-in}
-use Rattle.scrub_names.specs.declared.Mark.the-variants as M
-use Rattle.scrub_names.specs.Marks.{marksIn}
-use Rattle.scrub_names.proofs.Cells.{length-marks, mark-in}
+use Rattle.scrub_marks.specs.declared.Mark.the-variants as M
+use Rattle.scrub_marks.specs.Marks.{marksIn}
+use Rattle.scrub_marks.proofs.Cells.{length-marks, mark-in}
 use Rattle.scrub_plan.specs.Planned.{tagOf, slotPlan, SlotSmall, MarkFits}
 use Rattle.scrub_plan.proofs.Going.{Going, going-begins, going-ends, going-on}
 use Rattle.scrub_plan.proofs.plan_slots.Statement.{statement}
