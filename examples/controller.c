@@ -4,8 +4,9 @@
  *     cc -o controller controller.c $(pkg-config --cflags --libs ballastwren)
  *     ./controller SHEET PACK...
  *
- * A pack, a sheet and a pack to be sent each have a buffer of their own. Nothing is allocated. A pack that is refused
- * is reported and the loop goes on; the exit status is then 1.
+ * A pack, a sheet and a pack to be sent each have a buffer of their own. Nothing is allocated. The sheet is judged once,
+ * before any pack: where it is refused the exit status is 2. A pack that is refused is reported and the loop goes on; the
+ * exit status is then 1.
  */
 #include <stdbool.h>
 #include <stdio.h>
@@ -94,8 +95,11 @@ int main(int count, char **arguments)
         fprintf(stderr, "usage: %s SHEET PACK...\n", arguments[0]);
         return 2;
     }
-    if (!load(arguments[1], sheet, sizeof sheet, &sheet_length))
+    if (!load(arguments[1], sheet, sizeof sheet, &sheet_length) ||
+        refused(arguments[1], bw_sheet_check(sheet, sheet_length)))
         return 2;
+    if (sheet_length == 0)
+        fprintf(stderr, "%s: the sheet is empty, so it keeps nothing\n", arguments[1]);
     bool good = true;
     for (int i = 2; i < count; i++)
         good &= handle(arguments[i], sheet_length);

@@ -35,7 +35,10 @@ if [[ $arch != x86_64 ]]; then
     RATTLE_HOME=$(kit_for "$arch")
     export RATTLE_HOME
 fi
+# What is edited while it is being proved must be newer than the archive.
+began=$(date +%s.%N)
 rt staticlib "$crate"
+touch -d "@$began" "target/staticlib/lib$crate.a"
 mkdir -p "$(dirname "$out")"
 mv "target/staticlib/lib$crate.a" "$out"
 echo "$out is for $arch"

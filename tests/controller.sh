@@ -76,6 +76,16 @@ controls() {
     (cd "$folder" && run "$1" sheet moving still nothing reserved cut >printed; [[ $? -eq 1 ]]) && diff "$folder/expected" "$folder/printed"
 }
 
+# A sheet that is refused is told by its own name, once and before any pack; one of 0 bytes is told to keep nothing.
+sheets_told() {
+    : >"$folder/empty"
+    put malformed 0001
+    (cd "$folder" && run "$1" malformed moving still >printed 2>said; [[ $? -eq 2 ]]) || return
+    [[ $(<"$folder/printed") == 'malformed: refused SHEET at 0' && ! -s $folder/said ]] || return
+    (cd "$folder" && run "$1" empty nothing >printed 2>said) || return
+    [[ $(<"$folder/printed") == 'nothing: 17 bytes scrubbed to 23, pack offset 0' && $(<"$folder/said") == *'keeps nothing' ]]
+}
+
 # README's lines: they compile as they stand, keep every payload of a pack, and refuse what is no pack.
 sed -n '/^## From C/,/^## /p' README.md | sed -n 's/^    //p' | sed '/^cc /,$d' >"$folder/lines.c"
 as_in_readme() {
@@ -106,6 +116,7 @@ check "make install, below a folder with a space in its name" make -s install PR
 check "the shared library exports bw_… alone, as $soname" exports
 for module in ballastwren ballastwren-static; do
     check "$module: examples/controller.c prints the positions that are kept" controls "$module"
+    check "$module: the controller tells what is wrong with a sheet" sheets_told "$module"
     check "$module: README's lines of C compile as they stand" as_in_readme "$module"
 done
 check "ballastwren links the shared library" links_shared ballastwren
