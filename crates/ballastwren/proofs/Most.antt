@@ -47,7 +47,7 @@ rows-most pack {before} bytes x zero =
 
 -- THE NUMBERS OF A VALUE
 
-pub pmd-numbers-most : (kind : ℕ) (value : List ℕ) {before after : List ℕ} {t : Told} → BwPmdRead kind value before t after → t .number ≡ 0 → t .value ≤ 5461
+pub pmd-numbers-most : (kind : ℕ) (value : List ℕ) {before after : List ℕ} {t : Told} → BwPmdRead kind value before t after → t .number ≡ 0 → t .value ≤ 9828
 pmd-numbers-most kind value {before} x zero =
     let d = outcome-done x zero in
     omega (arith, d .2, fields-few kind value (d .0) (within-fine (length before) (fieldsRead kind value) (d .0) (d .1) .0))

@@ -23,3 +23,7 @@ module _ {o : Outcome (List ℕ)} {before : List ℕ} {r : Answer} where
     pub delivers-all : {after : List ℕ} → length xs ≤ length before → Delivered o before r after → Delivered (within (length before) o) before r after
     delivers-all {after} l d =
         subst (λ (p : Outcome (List ℕ)). Delivered p before r after) (e ∙ sym (ap (within (length before)) e ∙ fine-within (length before) xs l)) d
+
+  -- what is delivered of one outcome is delivered of its equal
+  pub delivers-as : {p : Outcome (List ℕ)} {after : List ℕ} → o ≡ p → Delivered (within (length before) p) before r after → Delivered (within (length before) o) before r after
+  delivers-as {after = after} e d = subst (λ (q : Outcome (List ℕ)). Delivered (within (length before) q) before r after) (sym e) d

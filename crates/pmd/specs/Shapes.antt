@@ -1,53 +1,154 @@
--- Inner. What the loops of the reader and the writer go by: the pieces of a kind as they walk them, the number of a value, and a list that has room.
+-- Inner. What the loops of the reader and the writer go by: the pieces of a kind as they walk them, the steps of a turnaround, the number of a value,
+-- and a list that has room.
 use mathlib.Core.Path.{_≡_}
 use mathlib.Core.List.{List, [], _∷_, _++_}
+use mathlib.Core.Bool.{Bool, true, false, cond, _&&_}
 use Prim.Native.Nat.{ℕ, _-_, _<_, _≤_}
+use lib.Dec.{eqb}
 use lib.ListN.{length, take, drop, replicate}
 use Rattle.refusals.specs.Outcomes.{Outcome, fine}
-use Rattle.pmd.specs.declared.Field.the-variants as F
+use Rattle.pmd.specs.declared.Field as row
+use Rattle.pmd.specs.declared.Field.the-variants as W
+use Rattle.pmd.specs.declared.TurnField.{TurnField}
+use Rattle.pmd.specs.declared.TurnField.the-variants as T
+use Rattle.pmd.specs.Fields.{Field}
+use Rattle.pmd.specs.Fields as F
 use Rattle.pmd.specs.declared.Kind.{Kind}
+use Rattle.pmd.specs.declared.Kind.the-variants as K
 use Rattle.pmd.specs.declared.Piece.{Piece}
 use Rattle.pmd.specs.declared.Value.{Value}
 use Rattle.pmd.specs.declared.Value.the-variants as X
-use Rattle.pmd.specs.Table.{widthOf, once, onceOf}
-use Rattle.pmd.specs.Records.{firstRecord}
+use Rattle.pmd.specs.Table.{widthOf, nonzero, Part, once, until, onceOf}
 use Rattle.pmd.specs.declared.Shape.{Shape}
+use Rattle.pmd.specs.declared.Step.{Step}
+use Rattle.pmd.specs.declared.Steps.{Steps}
 
 -- the number that stands for a value
 abbrev pub asNumber : Value → ℕ
 asNumber (X.Presentation id) = id .0
 asNumber (X.Element id) = id .0
 asNumber (X.Substream id) = id .0
+asNumber (X.Turnaround id) = id .0
+asNumber (X.Parameters id) = id .0
 asNumber (X.SpeakerConfig v) = v
 asNumber (X.Langcod v) = v
 asNumber (X.Class v) = v
 asNumber (X.Coordinate v) = v
+asNumber (X.FrameRate v) = v
+asNumber (X.ProgramConfig v) = v
 asNumber X.Terminator = 0
 asNumber (X.Plain v) = v
 
+-- FIELDS IN A ROW
+
+-- the field that the code has for a row
+abbrev pub fieldIn : row.Field → Field
+fieldIn W.Presentation = F.Presentation
+fieldIn W.SpeakerConfig = F.SpeakerConfig
+fieldIn W.Langcod = F.Langcod
+fieldIn W.Element = F.Element
+fieldIn W.Listed = F.Listed
+fieldIn W.Class = F.Class
+fieldIn W.Dynamic = F.Dynamic
+fieldIn W.Coordinate = F.Coordinate
+fieldIn W.Size = F.Size
+fieldIn W.Size3d = F.Size3d
+fieldIn W.Diverge = F.Diverge
+fieldIn W.Source = F.Source
+fieldIn W.Gain = F.Gain
+fieldIn W.SampleTime = F.SampleTime
+fieldIn W.Substream = F.Substream
+fieldIn W.Byte = F.Byte
+
+-- a piece: a field that stands once, or is repeated until it is 0
+abbrev pub piece : row.Field → Bool → Piece
+piece f again = record { 0 = f; 1 = widthOf (fieldIn f); 2 = again }
+
+abbrev pub partOf : Piece → Part
+partOf p = cond (p .2) (until (fieldIn (p .0))) (once (fieldIn (p .0)))
+
+abbrev pub partsOf : List Piece → List Part
+partsOf [] = []
+partsOf (p ∷ ps) = partOf p ∷ partsOf ps
+
+-- whether a piece has another field after the number v
+abbrev pub goesOn : Bool → ℕ → Bool
+goesOn again v = again && nonzero v
+
+-- what is left of a record, of which p was the next piece, when p goes on or does not
+abbrev pub onward : Piece → List Part → Bool → List Part
+onward p left more = cond more (partOf p ∷ left) left
+
 -- what is left of a shape from its piece i on
-abbrev pub leftOf : Shape → ℕ → List Piece
-leftOf shape i = drop i (take (shape .size) (shape .pieces))
+abbrev pub leftOf : Shape → ℕ → List Part
+leftOf shape i = partsOf (drop i (take (shape .size) (shape .pieces)))
 
 -- pieces that have their fields' widths
 abbrev pub widened : List Piece → List Piece
 widened [] = []
-widened (p ∷ ps) = record { 0 = p .0; 1 = widthOf (p .0); 2 = p .2 } ∷ widened ps
+widened (p ∷ ps) = piece (p .0) (p .2) ∷ widened ps
 
 -- a shape can be walked: it has so many pieces, of the 11 that it has room for, each with its field's width, and further records begin at one of them
 pub record Walkable (shape : Shape) : Type 0 where
   pub begins : shape .again < shape .size
   pub few : shape .size ≤ 11
   pub long : shape .size ≤ length (shape .pieces)
-  pub wide : leftOf shape 0 ≡ widened (leftOf shape 0)
+  pub wide : take (shape .size) (shape .pieces) ≡ widened (take (shape .size) (shape .pieces))
 
--- the shape of a kind: its pieces up to the end of the first record, bytes that do not count behind them, and further records from what stands once on
+abbrev pub single : row.Field → Piece
+single f = piece f false
+
+abbrev pub repeated : row.Field → Piece
+repeated f = piece f true
+
+-- the pieces of a kind up to the end of its first record; the fields of a turnaround stand in no row, and it has none
+abbrev pub piecesOf : Kind → List Piece
+piecesOf K.Apd = single W.Presentation ∷ single W.SpeakerConfig ∷ single W.Langcod ∷ repeated W.Listed ∷ []
+piecesOf K.Apn = single W.Presentation ∷ single W.Langcod ∷ repeated W.Byte ∷ []
+piecesOf K.Aod =
+    single W.Element ∷ single W.Class ∷ single W.Dynamic ∷ single W.Coordinate ∷ single W.Coordinate ∷ single W.Coordinate
+    ∷ single W.Size ∷ single W.Size3d ∷ single W.Diverge ∷ single W.Source ∷ single W.Gain ∷ []
+piecesOf K.Xyz = single W.SampleTime ∷ single W.Element ∷ single W.Coordinate ∷ single W.Coordinate ∷ single W.Coordinate ∷ []
+piecesOf K.Aen = single W.Element ∷ repeated W.Byte ∷ []
+piecesOf K.Esn = single W.Substream ∷ repeated W.Byte ∷ []
+piecesOf K.Etd = []
+
+-- the shape of a kind: its pieces, bytes that do not count behind them, and further records from what stands once on
 abbrev pub shapeOf : Kind → Shape
 shapeOf kind = record {
-  pieces = firstRecord kind ++ replicate (11 - length (firstRecord kind)) (once F.Byte);
+  pieces = piecesOf kind ++ replicate (11 - length (piecesOf kind)) (single W.Byte);
   again = length (onceOf kind);
-  size = length (firstRecord kind);
+  size = length (piecesOf kind);
 }
+
+-- THE STEPS OF A TURNAROUND
+
+-- the field that the code has for a turnaround
+abbrev pub turnIn : TurnField → Field
+turnIn T.Id = F.Turnaround
+turnIn T.Exists = F.Exists
+turnIn T.FrameRate = F.FrameRate
+turnIn T.ProgramConfig = F.ProgramConfig
+turnIn T.Paired = F.Paired
+turnIn T.Parameters = F.Parameters
+
+-- a step: a field, the step that follows its 0, and the step that follows any other number
+abbrev pub step : TurnField → ℕ → ℕ → Step
+step f onZero onOther = record { 0 = f; 1 = widthOf (turnIn f); 2 = onZero; 3 = onOther }
+
+abbrev pub nextStep : Step → ℕ → ℕ
+nextStep p v = cond (eqb v 0) (p .2) (p .3)
+
+-- Each list of pairs has its second field twice: after a presentation, before the next pair, and after the 0, where the list ends. The record is over
+-- at step 12.
+abbrev pub turnaroundSteps : List Step
+turnaroundSteps =
+    step T.Id 1 1
+    ∷ step T.Exists 6 2 ∷ step T.FrameRate 3 3 ∷ step T.Paired 5 4 ∷ step T.Parameters 3 3 ∷ step T.Parameters 6 6
+    ∷ step T.Exists 12 7 ∷ step T.FrameRate 8 8 ∷ step T.ProgramConfig 9 9 ∷ step T.Paired 11 10 ∷ step T.Parameters 9 9 ∷ step T.Parameters 12 12 ∷ []
+
+abbrev pub turnaround : Steps
+turnaround = record { all = turnaroundSteps }
 
 -- an outcome is a list that has room, so that it can be stored or put without a look at what might be wrong
 pub record Roomy (o : Outcome (List ℕ)) (room : ℕ) : Type 0 where

@@ -13,12 +13,12 @@ use Rattle.refusals.specs.declared.Answer.{Answer}
 use Rattle.refusals.specs.declared.Answer.the-variants as A
 use Rattle.refusals.proofs.Lent.{done-was}
 use Rattle.pmd.specs.declared.Kind.{Kind}
+use Rattle.pmd.specs.declared.Kind.the-variants as K
 use Rattle.pmd.specs.declared.Named.{Named}
 use Rattle.pmd.specs.declared.Named.the-variants as N
-use Rattle.pmd.specs.declared.Piece.{Piece}
 use Rattle.pmd.specs.declared.Shape.{Shape}
-use Rattle.pmd.specs.Table.{kindOf}
-use Rattle.pmd.specs.Reading.{readFrom, readAs, fieldsRead}
+use Rattle.pmd.specs.Table.{Part, kindOf}
+use Rattle.pmd.specs.Reading.{readFrom, readAll, readAs, fieldsRead}
 use Rattle.pmd.specs.Shapes.{Roomy}
 use Rattle.pmd.proofs.Shapes.{ShapeFor}
 use Rattle.pmd.proofs.Answers.{delivers-noroom, delivers-all}
@@ -37,11 +37,15 @@ module _ (kind : ℕ) (s : List ℕ) {named : Named} (e : named ≡ kindOf kind)
     unfolding readAs
     read-big l = as-named k ∙ simp (lt-ltb _ _ l)
 
+    pub read-turnaround : length s ≤ 4096 → known ≡ K.Etd → fieldsRead kind s ≡ readAll K.Etd s
+    unfolding readAs
+    read-turnaround l is = as-named k ∙ simp (le-ltb _ _ l) (ap (λ (of : Kind). readAll of s) is)
+
     pub read-shape : {shape : Shape} → length s ≤ 4096 → ShapeFor known shape → fieldsRead kind s ≡ readShape shape s
     unfolding readAs
     read-shape l holds =
         as-named k
-        ∙ simp (le-ltb _ _ l) (sym (ap₂ (λ (again first : List Piece). readFrom (suc (8 * length s)) again first (bits s) 0) (holds .again) (holds .first)))
+        ∙ simp (le-ltb _ _ l) (sym (ap₂ (λ (again first : List Part). readFrom (suc (8 * length s)) again first (bits s) 0) (holds .again) (holds .first)))
 
 -- n numbers were counted
 module _ {read o : Outcome (List ℕ)} (e : read ≡ o) {counted : Answer} {n : ℕ} (c : counted ≡ answered length o) (done : counted ≡ A.Done n) where

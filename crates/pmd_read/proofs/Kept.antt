@@ -13,40 +13,54 @@ use Rattle.runs.proofs.Cases.{split}
 use Rattle.bits.specs.Bits.{bits, fieldAt}
 use Rattle.bits.proofs.Bits.{length-bits}
 use Rattle.bits.proofs.Fields.{field-lt}
-use Rattle.refusals.specs.Outcomes.{Outcome, fine, refused}
+use Rattle.refusals.specs.Outcomes.{Outcome, fine, refused, answered}
 use Rattle.refusals.specs.Lent.{prepend}
 use Rattle.refusals.specs.declared.Refusal.the-variants as R
+use Rattle.refusals.specs.declared.Answer.{Answer}
+use Rattle.refusals.specs.declared.Answer.the-variants as A
+use Rattle.refusals.proofs.Lent.{answers, counts}
+use Rattle.pmd.specs.Fields.{Field}
+use Rattle.pmd.specs.declared.Kind.the-variants as K
 use Rattle.pmd.specs.declared.Piece.{Piece}
 use Rattle.pmd.specs.declared.Shape.{Shape}
+use Rattle.pmd.specs.declared.Step.{Step}
 use Rattle.pmd.specs.declared.Value.{Value}
-use Rattle.pmd.specs.Table.{widthOf, typed, mayHold}
-use Rattle.pmd.specs.Records.{goesOn, onward, width, takes, after, closed, opened}
-use Rattle.pmd.specs.Reading.{padding, readFrom}
-use Rattle.pmd.specs.Shapes.{asNumber, leftOf, Walkable, Roomy}
-use Rattle.pmd.proofs.Fields.{number-value}
-use Rattle.pmd.proofs.Walk.{Records, Fields, left-next, fields-open, fields-narrow, fields-on}
+use Rattle.pmd.specs.Table.{widthOf, typed, mayHold, Part, recordOf}
+use Rattle.pmd.specs.Records.{fieldOf, width, takes, after, closed, opened}
+use Rattle.pmd.specs.Reading.{padding, readFrom, readAll}
+use Rattle.pmd.specs.Shapes.{asNumber, fieldIn, turnIn, partOf, goesOn, onward, leftOf, Walkable, nextStep, Roomy}
+use Rattle.pmd.proofs.Fields.{narrow, number-value}
+use Rattle.pmd.proofs.Next.{Next, next-piece, after-piece}
+use Rattle.pmd.proofs.Turnarounds.{leftAt, left-first, Stepped, Strides, strides-on}
+use Rattle.pmd.proofs.Walk.{Records, Fields, left-next, fields-open, fields-on}
 use Rattle.pmd.proofs.Begun.{Begun, begun-none, begun-on, begun-as, begun-refused, begun-ends, begun-fits, roomy-never}
-use Rattle.pmd_read.specs.ByShape.{readShape}
+use Rattle.pmd_read.specs.ByShape.{readBy, readShape}
 
 -- how many bits are left
 length-left : (s : List ℕ) (at : ℕ) → length (drop at (bits s)) ≡ 8 * length s - at
 length-left s at = length-drop at (bits s) ∙ ap (λ (n : ℕ). n - at) (length-bits s)
 
--- the reader at a piece whose field has w bits, which hold v
-module _ (steps : ℕ) (again : List Piece) (p : Piece) (left : List Piece) (s : List ℕ) (at : ℕ) where
-  abbrev met : ℕ → ℕ → Outcome (List ℕ)
-  met w v =
+-- the reader where a field f of w bits, which hold v, is next
+module _ (steps : ℕ) (again : List Part) (s : List ℕ) (at : ℕ) where
+  abbrev met : List Part → Field → ℕ → ℕ → Outcome (List ℕ)
+  met left f w v =
       cond (ltb (8 * length s - at) w) (refused R.Bits at)
-      (cond (mayHold (typed (p .0) v))
-      (prepend (v ∷ []) (readFrom steps again (onward p left (goesOn (p .2) v)) (drop (at + w) (bits s)) (at + w)))
+      (cond (mayHold (typed f v))
+      (prepend (v ∷ []) (readFrom steps again (after left v) (drop (at + w) (bits s)) (at + w)))
       (refused R.Field at))
 
-  at-piece : readFrom (suc steps) again (p ∷ left) (drop at (bits s)) at ≡ met (widthOf (p .0)) (fieldAt s at (widthOf (p .0)))
-  unfolding readFrom closed opened width takes after fieldAt
-  at-piece = simp (length-left s at, lt-ltb _ _ (field-lt s at (widthOf (p .0))), drop-drop)
+  abbrev Meets : List Part → Field → Type 0
+  Meets left f = readFrom (suc steps) again left (drop at (bits s)) at ≡ met left f (widthOf f) (fieldAt s at (widthOf f))
+
+  at-part : (p : Part) (left : List Part) → Meets (p ∷ left) (fieldOf p)
+  unfolding readFrom closed opened width takes fieldAt
+  at-part p left = simp (length-left s at, lt-ltb _ _ (field-lt s at (widthOf (fieldOf p))), drop-drop)
+
+  at-next : {f : Field} {left : List Part} → Next f left → Meets left f
+  at-next {f} n = subst (λ (l : List Part). Meets l f) (sym (n .is)) (subst (λ (g : Field). Meets (n .part ∷ n .rest) g) (n .field) (at-part (n .part) (n .rest)))
 
 -- the reader where a record is closed
-module _ (steps : ℕ) (again : List Piece) (s : List ℕ) (at : ℕ) where
+module _ (steps : ℕ) (again : List Part) (s : List ℕ) (at : ℕ) where
   read-over : 8 * length s - at < 8
       → readFrom (suc steps) again [] (drop at (bits s)) at ≡ cond (eqb (fieldAt s at (8 * length s - at)) 0) (fine []) (refused R.Pad at)
   unfolding readFrom closed padding fieldAt
@@ -55,15 +69,15 @@ module _ (steps : ℕ) (again : List Piece) (s : List ℕ) (at : ℕ) where
       let all : take (8 * length s - at) bs ≡ bs = take-all (8 * length s - at) bs (omega (arith, length-left s at)) in
       simp (length-left s at, lt-ltb _ _ h, all)
 
-  read-again : (p : Piece) (left : List Piece) → again ≡ p ∷ left → 8 ≤ 8 * length s - at
+  read-again : (p : Part) (left : List Part) → again ≡ p ∷ left → 8 ≤ 8 * length s - at
       → readFrom (suc steps) again [] (drop at (bits s)) at ≡ readFrom (suc steps) again again (drop at (bits s)) at
   unfolding readFrom closed opened
   read-again p left e h =
-      subst (λ (g : List Piece). readFrom (suc steps) g [] (drop at (bits s)) at ≡ readFrom (suc steps) g g (drop at (bits s)) at) (sym e)
+      subst (λ (g : List Part). readFrom (suc steps) g [] (drop at (bits s)) at ≡ readFrom (suc steps) g g (drop at (bits s)) at) (sym e)
       (simp (length-left s at, le-ltb _ _ h))
 
 -- what a loop knows: the numbers xs, n of them and this of them, were found before bit `at`, and this is left of the record
-pub record Found (P : List ℕ → Type 0) (shape : Shape) (s : List ℕ) (at n : ℕ) (left : List Piece) : Type 0 where
+pub record Found (P : List ℕ → Type 0) (again first : List Part) (s : List ℕ) (at n : ℕ) (left : List Part) : Type 0 where
   pub xs : List ℕ
   pub also : P xs
   pub steps : ℕ
@@ -71,113 +85,189 @@ pub record Found (P : List ℕ → Type 0) (shape : Shape) (s : List ℕ) (at n 
   pub few : n ≤ at
   pub inside : at ≤ 8 * length s
   pub enough : 8 * length s ≤ at + steps
-  pub begun : Begun (readShape shape s) xs (readFrom (suc steps) (leftOf shape (shape .again)) left (drop at (bits s)) at)
+  pub begun : Begun (readBy again first s) xs (readFrom (suc steps) again left (drop at (bits s)) at)
 
-pub found-none : {P : List ℕ → Type 0} {shape : Shape} {s : List ℕ} → P [] → Found P shape s 0 0 (leftOf shape 0)
+pub found-none : {P : List ℕ → Type 0} {again first : List Part} {s : List ℕ} → P [] → Found P again first s 0 0 first
 found-none {s = s} also = record
     { xs = []; also = also; steps = 8 * length s; long = refl; few = omega arith; inside = omega arith; enough = omega arith; begun = begun-none _ }
 
--- where a field is due
-module _ {P : List ℕ → Type 0} {shape : Shape} {s : List ℕ} {at₀ at n i : ℕ} {p : Piece} {more : Bool} (f : Fields (Found P shape s at n) shape i p at₀ at more) (goes : more ≡ true) where
-  abbrev again : List Piece
-  again = leftOf shape (shape .again)
+-- where a field of w bits is next
+module _ {P : List ℕ → Type 0} {again first : List Part} {s : List ℕ} {at n w : ℕ} {left : List Part} {f : Field} (o : Found P again first s at n left) (next : Next f left) (wide : w ≡ widthOf f) where
+  pub field-fits : (n ≤ at) × (at ≤ 8 * length s) × (1 ≤ w) × (w ≤ 15)
+  field-fits = let bounds = narrow f wide in (o .few, o .inside, bounds .0, bounds .1)
 
-  abbrev left : List Piece
-  left = leftOf shape (i + 1)
+  here : {v : ℕ} → v ≡ fieldAt s at w → readFrom (suc (o .steps)) again left (drop at (bits s)) at ≡ met (o .steps) again s at left f w v
+  here e = at-next (o .steps) again s at next ∙ sym (ap₂ (met (o .steps) again s at left f) wide (e ∙ ap (fieldAt s at) wide))
 
-  pub due : Found P shape s at n (p ∷ left)
-  due = fields-open f goes
-
-  pub due-fits : (n ≤ at) × (at ≤ 8 * length s) × (1 ≤ p .1) × (p .1 ≤ 15)
-  due-fits = let w = fields-narrow f in (due .few, due .inside, w .0, w .1)
-
-  here : {v : ℕ} → v ≡ fieldAt s at (p .1) → readFrom (suc (due .steps)) again (p ∷ left) (drop at (bits s)) at ≡ met (due .steps) again p left s at (p .1) v
-  here e = at-piece (due .steps) again p left s at ∙ sym (ap₂ (met (due .steps) again p left s at) (f .wide) (e ∙ ap (fieldAt s at) (f .wide)))
-
-  pub due-short : 8 * length s - at < p .1 → readShape shape s ≡ refused R.Bits at
-  due-short h = begun-refused (due .begun) (here refl ∙ simp (lt-ltb _ _ h))
+  pub field-short : 8 * length s - at < w → readBy again first s ≡ refused R.Bits at
+  field-short h = begun-refused (o .begun) (here refl ∙ simp (lt-ltb _ _ h))
 
   -- it is there, and its number stands for the value x
-  module _ (h : p .1 ≤ 8 * length s - at) {v : ℕ} (ev : v ≡ fieldAt s at (p .1)) {x : Value} (ex : x ≡ typed (p .0) v) where
-    pub due-bad : mayHold x ≡ false → readShape shape s ≡ refused R.Field at
-    due-bad b = begun-refused (due .begun) (here ev ∙ simp (le-ltb _ _ h, ap mayHold (sym ex) ∙ b))
+  module _ (h : w ≤ 8 * length s - at) {v : ℕ} (ev : v ≡ fieldAt s at w) {x : Value} (ex : x ≡ typed f v) where
+    pub field-bad : mayHold x ≡ false → readBy again first s ≡ refused R.Field at
+    field-bad b = begun-refused (o .begun) (here ev ∙ simp (le-ltb _ _ h, ap mayHold (sym ex) ∙ b))
 
     module _ (b : mayHold x ≡ true) where
-      next : Begun (readShape shape s) (due .xs ++ (v ∷ [])) (readFrom (due .steps) again (onward p left (goesOn (p .2) v)) (drop (at + p .1) (bits s)) (at + p .1))
-      next = begun-on (due .begun) (v ∷ []) (here ev ∙ simp (le-ltb _ _ h, ap mayHold (sym ex) ∙ b))
+      begins : Begun (readBy again first s) (o .xs ++ (v ∷ [])) (readFrom (o .steps) again (after left v) (drop (at + w) (bits s)) (at + w))
+      begins = begun-on (o .begun) (v ∷ []) (here ev ∙ simp (le-ltb _ _ h, ap mayHold (sym ex) ∙ b))
 
-      pub due-on : {goes-on : Bool} {Q : List ℕ → Type 0} → goes-on ≡ goesOn (p .2) v → Q (due .xs ++ (v ∷ []))
-          → Fields (Found Q shape s (at + p .1) (n + 1)) shape i p at₀ (at + p .1) goes-on
-      due-on e also =
-          let fits = due-fits in
-          let steps : due .steps ≡ suc (due .steps - 1) = omega (arith, due .enough) in
-          fields-on f (omega arith)
-          (record {
+      pub field-on : {Q : List ℕ → Type 0} → Q (o .xs ++ (v ∷ [])) → Found Q again first s (at + w) (n + 1) (after left v)
+      field-on also =
+          let fits = field-fits in
+          let steps : o .steps ≡ suc (o .steps - 1) = omega (arith, o .enough) in
+          record {
             xs = _;
             also = also;
-            steps = due .steps - 1;
-            long = length-append (due .xs) (v ∷ []) ∙ ap (λ (m : ℕ). m + 1) (due .long);
+            steps = o .steps - 1;
+            long = length-append (o .xs) (v ∷ []) ∙ ap (λ (m : ℕ). m + 1) (o .long);
             few = omega arith;
             inside = omega arith;
-            enough = omega (arith, due .enough);
-            begun = begun-as next (ap₂ (λ (m : ℕ) (x : Bool). readFrom m again (onward p left x) (drop (at + p .1) (bits s)) (at + p .1)) steps (sym e));
-          })
+            enough = omega (arith, o .enough);
+            begun = begun-as begins (ap (λ (m : ℕ). readFrom m again (after left v) (drop (at + w) (bits s)) (at + w)) steps);
+          }
 
   -- of a value whose reading has room the field is there and is good, and its number has room
-  module _ {room : ℕ} (roomy : Roomy (readShape shape s) room) where
-    there : p .1 ≤ 8 * length s - at
-    there = split (ltb (8 * length s - at) (p .1)) (λ l. roomy-never roomy (due-short (ltb-true _ _ l))) (λ l. ltb-false _ _ l)
+  module _ {room : ℕ} (roomy : Roomy (readBy again first s) room) where
+    there : w ≤ 8 * length s - at
+    there = split (ltb (8 * length s - at) w) (λ l. roomy-never roomy (field-short (ltb-true _ _ l))) (λ l. ltb-false _ _ l)
 
-    good : {v : ℕ} → v ≡ fieldAt s at (p .1) → mayHold (typed (p .0) v) ≡ true
-    good {v} ev = split (mayHold (typed (p .0) v)) (λ b. b) (λ b. roomy-never roomy (due-bad there ev refl b))
+    good : {v : ℕ} → v ≡ fieldAt s at w → mayHold (typed f v) ≡ true
+    good {v} ev = split (mayHold (typed f v)) (λ b. b) (λ b. roomy-never roomy (field-bad there ev refl b))
 
-    pub due-sure : (n ≤ at) × (at + p .1 ≤ 8 * length s) × (1 ≤ p .1) × (p .1 ≤ 15) × (n < room)
-    due-sure =
-        let fits = due-fits in
-        let is : fieldAt s at (p .1) ≡ fieldAt s at (p .1) = refl in
-        let most = begun-fits (next there is refl (good is)) roomy in
-        (fits .0, omega (arith, there), fits .2, fits .3, omega (arith, most, length-append (due .xs) (fieldAt s at (p .1) ∷ []), due .long))
+    pub field-sure : (n ≤ at) × (at + w ≤ 8 * length s) × (1 ≤ w) × (w ≤ 15) × (n < room)
+    field-sure =
+        let fits = field-fits in
+        let is : fieldAt s at w ≡ fieldAt s at w = refl in
+        let most = begun-fits (begins there is refl (good is)) roomy in
+        (fits .0, omega (arith, there), fits .2, fits .3, omega (arith, most, length-append (o .xs) (fieldAt s at w ∷ []), o .long))
 
     -- the number r that is stored went through its value
-    pub due-stored : {v r : ℕ} {x : Value} {goes-on : Bool} {Q : List ℕ → Type 0} → v ≡ fieldAt s at (p .1) → x ≡ typed (p .0) v → r ≡ asNumber x
-        → goes-on ≡ goesOn (p .2) r → Q (due .xs ++ (r ∷ [])) → Fields (Found Q shape s (at + p .1) (n + 1)) shape i p at₀ (at + p .1) goes-on
-    due-stored {v} {r} ev ex er e also =
-        let is : r ≡ fieldAt s at (p .1) = er ∙ ap asNumber ex ∙ number-value (p .0) v ∙ ev in
-        due-on there is refl (good is) e also
+    pub field-stored : {v r : ℕ} {x : Value} {Q : List ℕ → Type 0} → v ≡ fieldAt s at w → x ≡ typed f v → r ≡ asNumber x → Q (o .xs ++ (r ∷ []))
+        → Found Q again first s (at + w) (n + 1) (after left r)
+    field-stored {v} {r} ev ex er also = let is : r ≡ fieldAt s at w = er ∙ ap asNumber ex ∙ number-value f v ∙ ev in field-on there is refl (good is) also
 
 -- where a record is closed
-module _ {P : List ℕ → Type 0} {shape : Shape} {s : List ℕ} {at n : ℕ} (o : Found P shape s at n []) where
+module _ {P : List ℕ → Type 0} {again first : List Part} {s : List ℕ} {at n : ℕ} (o : Found P again first s at n []) where
   module _ (h : 8 * length s - at < 8) {v : ℕ} (ev : v ≡ fieldAt s at (8 * length s - at)) where
-    closing : readFrom (suc (o .steps)) (leftOf shape (shape .again)) [] (drop at (bits s)) at ≡ cond (eqb v 0) (fine []) (refused R.Pad at)
+    closing : readFrom (suc (o .steps)) again [] (drop at (bits s)) at ≡ cond (eqb v 0) (fine []) (refused R.Pad at)
     closing =
-        read-over (o .steps) (leftOf shape (shape .again)) s at h
+        read-over (o .steps) again s at h
         ∙ ap {A = ℕ} (λ (x : ℕ). cond {A = Outcome (List ℕ)} (eqb x 0) (fine []) (refused R.Pad at)) (sym ev)
 
-    pub over-ends : v ≡ 0 → readShape shape s ≡ fine (o .xs)
+    over-ends : v ≡ 0 → readBy again first s ≡ fine (o .xs)
     over-ends z = begun-ends (o .begun) (closing ∙ simp (eq-eqb v 0 z))
 
-    pub over-pad : (v ≡ 0 → ⊥) → readShape shape s ≡ refused R.Pad at
+    over-pad : (v ≡ 0 → ⊥) → readBy again first s ≡ refused R.Pad at
     over-pad z = begun-refused (o .begun) (closing ∙ simp (ne-eqb v 0 z))
 
-  pub over-again : Walkable shape → 8 ≤ 8 * length s - at → Records (Found P shape s at n) shape (shape .again)
-  over-again walkable h =
-      let some = left-next walkable (shape .again) (walkable .begins) in
-      record {
-        known = record {
-          xs = o .xs;
-          also = o .also;
-          steps = o .steps;
-          long = o .long;
-          few = o .few;
-          inside = o .inside;
-          enough = o .enough;
-          begun = begun-as (o .begun) (read-again (o .steps) (leftOf shape (shape .again)) s at _ _ some h);
-        };
-        there = walkable .begins;
-      }
+  -- the answer by those bits
+  pub over-answers : {r : Answer} → 8 * length s - at < 8 → r ≡ cond (eqb (fieldAt s at (8 * length s - at)) 0) (A.Done n) (A.Refused R.Pad at)
+      → r ≡ answered length (readBy again first s)
+  over-answers h e =
+      let v = fieldAt s at (8 * length s - at) in
+      let is : v ≡ v = refl in
+      split (eqb v 0)
+      (λ z. counts length (over-ends h is (eqb-true _ _ z)) (e ∙ simp z (ap A.Done (sym (o .long)))))
+      (λ z. answers length (over-pad h is (eqb-false _ _ z)) (e ∙ simp z))
 
-  pub over-stored : {room : ℕ} → Roomy (readShape shape s) room → 8 * length s - at < 8 → readShape shape s ≡ fine (o .xs)
+  over-on : {p : Part} {left : List Part} → again ≡ p ∷ left → 8 ≤ 8 * length s - at → Found P again first s at n again
+  over-on some h = record {
+    xs = o .xs;
+    also = o .also;
+    steps = o .steps;
+    long = o .long;
+    few = o .few;
+    inside = o .inside;
+    enough = o .enough;
+    begun = begun-as (o .begun) (read-again (o .steps) again s at _ _ some h);
+  }
+
+  pub over-stored : {room : ℕ} → Roomy (readBy again first s) room → 8 * length s - at < 8 → readBy again first s ≡ fine (o .xs)
   over-stored roomy h =
       let v = fieldAt s at (8 * length s - at) in
       let is : v ≡ v = refl in
       split (eqb v 0) (λ z. over-ends h is (eqb-true _ _ z)) (λ z. roomy-never roomy (over-pad h is (eqb-false _ _ z)))
+
+-- FIELDS IN A ROW
+
+abbrev pub InShape : (List ℕ → Type 0) → Shape → List ℕ → ℕ → ℕ → List Part → Type 0
+InShape P shape s at n = Found P (leftOf shape (shape .again)) (leftOf shape 0) s at n
+
+-- a field of the piece is due
+module _ {P : List ℕ → Type 0} {shape : Shape} {s : List ℕ} {at₀ at n i : ℕ} {p : Piece} {more : Bool} (f : Fields (InShape P shape s at n) shape i p at₀ at more) (goes : more ≡ true) where
+  pub due : InShape P shape s at n (partOf p ∷ leftOf shape (i + 1))
+  due = fields-open f goes
+
+  first-next : Next (fieldIn (p .0)) (partOf p ∷ leftOf shape (i + 1))
+  first-next = next-piece p (leftOf shape (i + 1))
+
+  -- after its number the piece goes on or does not
+  on : {Q : List ℕ → Type 0} {m : ℕ} {goes-on : Bool} (v : ℕ) → 1 ≤ p .1 → goes-on ≡ goesOn (p .2) v
+      → InShape Q shape s (at + p .1) m (after (partOf p ∷ leftOf shape (i + 1)) v) → Fields (InShape Q shape s (at + p .1) m) shape i p at₀ (at + p .1) goes-on
+  on {Q} {m} v some e k = fields-on f (omega arith) (subst (InShape Q shape s (at + p .1) m) (after-piece p (leftOf shape (i + 1)) v ∙ ap (onward p (leftOf shape (i + 1))) (sym e)) k)
+
+  pub due-fits : (n ≤ at) × (at ≤ 8 * length s) × (1 ≤ p .1) × (p .1 ≤ 15)
+  due-fits = field-fits due first-next (f .wide)
+
+  pub due-short : 8 * length s - at < p .1 → readShape shape s ≡ refused R.Bits at
+  due-short = field-short due first-next (f .wide)
+
+  module _ (h : p .1 ≤ 8 * length s - at) {v : ℕ} (ev : v ≡ fieldAt s at (p .1)) {x : Value} (ex : x ≡ typed (fieldIn (p .0)) v) where
+    pub due-bad : mayHold x ≡ false → readShape shape s ≡ refused R.Field at
+    due-bad = field-bad due first-next (f .wide) h ev ex
+
+    pub due-on : mayHold x ≡ true → {goes-on : Bool} {Q : List ℕ → Type 0} → goes-on ≡ goesOn (p .2) v → Q (due .xs ++ (v ∷ []))
+        → Fields (InShape Q shape s (at + p .1) (n + 1)) shape i p at₀ (at + p .1) goes-on
+    due-on b e also = on v (due-fits .2) e (field-on due first-next (f .wide) h ev ex b also)
+
+  module _ {room : ℕ} (roomy : Roomy (readShape shape s) room) where
+    pub due-sure : (n ≤ at) × (at + p .1 ≤ 8 * length s) × (1 ≤ p .1) × (p .1 ≤ 15) × (n < room)
+    due-sure = field-sure due first-next (f .wide) roomy
+
+    pub due-stored : {v r : ℕ} {x : Value} {goes-on : Bool} {Q : List ℕ → Type 0} → v ≡ fieldAt s at (p .1) → x ≡ typed (fieldIn (p .0)) v → r ≡ asNumber x
+        → goes-on ≡ goesOn (p .2) r → Q (due .xs ++ (r ∷ [])) → Fields (InShape Q shape s (at + p .1) (n + 1)) shape i p at₀ (at + p .1) goes-on
+    due-stored {r = r} ev ex er e also = on r (due-fits .2) e (field-stored due first-next (f .wide) roomy ev ex er also)
+
+pub over-again : {P : List ℕ → Type 0} {shape : Shape} {s : List ℕ} {at n : ℕ} → InShape P shape s at n [] → Walkable shape → 8 ≤ 8 * length s - at
+    → Records (InShape P shape s at n) shape (shape .again)
+over-again {shape = shape} o walkable h = record { known = over-on o (left-next walkable (shape .again) (walkable .begins)) h; there = walkable .begins }
+
+-- TURNAROUNDS
+
+abbrev pub InTurn : (List ℕ → Type 0) → List ℕ → ℕ → ℕ → List Part → Type 0
+InTurn P s at n = Found P (recordOf K.Etd) (recordOf K.Etd) s at n
+
+pub turn-none : {P : List ℕ → Type 0} {s : List ℕ} → P [] → InTurn P s 0 0 (leftAt 0)
+turn-none {P} {s} also = subst (InTurn P s 0 0) (sym left-first) (found-none also)
+
+pub turn-again : {P : List ℕ → Type 0} {s : List ℕ} {at n : ℕ} → InTurn P s at n [] → 8 ≤ 8 * length s - at → InTurn P s at n (leftAt 0)
+turn-again {P} {s} {at} {n} o h = subst (InTurn P s at n) (sym left-first) (over-on o refl h)
+
+-- the field of the step is due
+module _ {P : List ℕ → Type 0} {s : List ℕ} {at₀ i₀ at n i : ℕ} {p : Step} (k : Strides (InTurn P s at n) at₀ i₀ at i) (q : Stepped p (leftAt i)) where
+  -- after its number v the next step is due
+  onto : {Q : List ℕ → Type 0} {m j : ℕ} (v : ℕ) → 1 ≤ p .1 → j ≡ nextStep p v → InTurn Q s (at + p .1) m (after (leftAt i) v)
+      → Strides (InTurn Q s (at + p .1) m) at₀ i₀ (at + p .1) j
+  onto {Q} {m} v some e f = strides-on k (omega arith) (subst (InTurn Q s (at + p .1) m) (q .on v ∙ ap leftAt (sym e)) f)
+
+  pub step-fits : (n ≤ at) × (at ≤ 8 * length s) × (1 ≤ p .1) × (p .1 ≤ 15)
+  step-fits = field-fits (k .known) (q .next) (q .wide)
+
+  pub step-short : 8 * length s - at < p .1 → readAll K.Etd s ≡ refused R.Bits at
+  step-short = field-short (k .known) (q .next) (q .wide)
+
+  module _ (h : p .1 ≤ 8 * length s - at) {v : ℕ} (ev : v ≡ fieldAt s at (p .1)) {x : Value} (ex : x ≡ typed (turnIn (p .0)) v) where
+    pub step-bad : mayHold x ≡ false → readAll K.Etd s ≡ refused R.Field at
+    step-bad = field-bad (k .known) (q .next) (q .wide) h ev ex
+
+    pub step-on : mayHold x ≡ true → {j : ℕ} {Q : List ℕ → Type 0} → j ≡ nextStep p v → Q (k .known .xs ++ (v ∷ []))
+        → Strides (InTurn Q s (at + p .1) (n + 1)) at₀ i₀ (at + p .1) j
+    step-on b e also = onto v (step-fits .2) e (field-on (k .known) (q .next) (q .wide) h ev ex b also)
+
+  module _ {room : ℕ} (roomy : Roomy (readAll K.Etd s) room) where
+    pub step-sure : (n ≤ at) × (at + p .1 ≤ 8 * length s) × (1 ≤ p .1) × (p .1 ≤ 15) × (n < room)
+    step-sure = field-sure (k .known) (q .next) (q .wide) roomy
+
+    pub step-stored : {v r : ℕ} {x : Value} {j : ℕ} {Q : List ℕ → Type 0} → v ≡ fieldAt s at (p .1) → x ≡ typed (turnIn (p .0)) v → r ≡ asNumber x
+        → j ≡ nextStep p r → Q (k .known .xs ++ (r ∷ [])) → Strides (InTurn Q s (at + p .1) (n + 1)) at₀ i₀ (at + p .1) j
+    step-stored {r = r} ev ex er e also = onto r (step-fits .2) e (field-stored (k .known) (q .next) (q .wide) roomy ev ex er also)

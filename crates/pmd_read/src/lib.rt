@@ -4,15 +4,32 @@ use pmd::Shape;
 use refusals::Answer;
 use refusals::Refusal;
 ghost use mathlib.Core.Path.{_≡_};
-ghost use Prim.Native.Nat.{_-_, _*_, _<_, _≤_};
+ghost use mathlib.Core.Bool.{cond};
+ghost use Prim.Native.Nat.{_+_, _-_, _*_, _<_, _≤_};
+ghost use lib.Dec.{eqb};
 ghost use lib.ListN.{length};
+ghost use Rattle.bits.specs.Bits.{fieldAt};
+ghost use Rattle.refusals.specs.declared.Answer.the-variants as Answers;
+ghost use Rattle.refusals.specs.declared.Refusal.the-variants as R;
 ghost use Rattle.refusals.specs.Outcomes.{answered};
 ghost use Rattle.refusals.specs.Lent.{within, lent, Delivered};
-ghost use Rattle.pmd.specs.Reading.{fieldsRead};
+ghost use Rattle.pmd.specs.declared.Kind.the-variants as K;
+ghost use Rattle.pmd.specs.Reading.{readAll, fieldsRead};
 ghost use Rattle.pmd.specs.Shapes.{Walkable, Roomy};
 ghost use Rattle.pmd_read.specs.ByShape.{readShape};
 
-// How many fields a value has, or what is wrong with it.
+// The answer for a value of n fields whose last `rest` bits, from bit `at` on, are no record: they must be 0.
+fn ended(s: &[u8], at: usize, rest: usize, n: usize) -> Answer
+    requires { ⌜ (length (now s) ≤ 4096) × ((at + rest ≡ 8 * length (now s)) × (rest < 8)) ⌝ }
+    ensures { λ r. ⌜ r ≡ cond (eqb (fieldAt (now (s .entry)) at rest) 0) (Answers.Done n) (Answers.Refused R.Pad at) ⌝ }
+{
+    if bits::fetch(s, at, rest) == 0 {
+        return Answer::Done(n);
+    }
+    pmd::refused(Refusal::Pad, at)
+}
+
+// How many fields a value of this shape has, or what is wrong with it.
 fn count(shape: Shape, s: &[u8]) -> Answer
     requires { ⌜ (length (now s) ≤ 4096) × Walkable shape ⌝ }
     ensures { λ r. ⌜ r ≡ answered length (readShape shape (now (s .entry))) ⌝ }
@@ -42,16 +59,13 @@ fn count(shape: Shape, s: &[u8]) -> Answer
         }
         let rest = 8 * s.len() - at;
         if rest < 8 {
-            if bits::fetch(s, at, rest) == 0 {
-                return Answer::Done(n);
-            }
-            return pmd::refused(Refusal::Pad, at);
+            return ended(s, at, rest, n);
         }
         i = shape.again;
     }
 }
 
-// Stores the fields of a value that was counted and has room.
+// Stores the fields of a value of this shape that was counted and has room.
 fn fill(shape: Shape, s: &[u8], numbers: &mut [u32])
     requires { ⌜ (length (now s) ≤ 4096) × (Walkable shape × Roomy (readShape shape (now s)) (length (now numbers))) ⌝ }
     ensures { λ _. ⌜ now (numbers .exit) ≡ lent (now (numbers .entry)) (readShape shape (now (s .entry))) ⌝ }
@@ -81,6 +95,82 @@ fn fill(shape: Shape, s: &[u8], numbers: &mut [u32])
     }
 }
 
+// How many fields the turnarounds of a value have, or what is wrong with them.
+fn count_turnarounds(s: &[u8]) -> Answer
+    requires { ⌜ length (now s) ≤ 4096 ⌝ }
+    ensures { λ r. ⌜ r ≡ answered length (readAll K.Etd (now (s .entry))) ⌝ }
+{
+    let steps = pmd::turnaround();
+    let mut at: usize = 0;
+    let mut n: usize = 0;
+    let mut i: usize = 0;
+    loop {
+        while i < 12 {
+            let step = steps.all[i];
+            let f = step.0;
+            let w = step.1 as usize;
+            if 8 * s.len() - at < w {
+                return pmd::refused(Refusal::Bits, at);
+            }
+            let v = bits::fetch(s, at, w);
+            if !pmd::holds(pmd::turn_value(f, v)) {
+                return pmd::refused(Refusal::Field, at);
+            }
+            at += w;
+            n += 1;
+            i = pmd::next_step(step, v);
+        }
+        let unread = 8 * s.len() - at;
+        if unread < 8 {
+            return ended(s, at, unread, n);
+        }
+        i = 0;
+    }
+}
+
+// Stores the fields of turnarounds that were counted and have room.
+fn fill_turnarounds(s: &[u8], numbers: &mut [u32])
+    requires { ⌜ (length (now s) ≤ 4096) × Roomy (readAll K.Etd (now s)) (length (now numbers)) ⌝ }
+    ensures { λ _. ⌜ now (numbers .exit) ≡ lent (now (numbers .entry)) (readAll K.Etd (now (s .entry))) ⌝ }
+{
+    let steps = pmd::turnaround();
+    let mut at: usize = 0;
+    let mut n: usize = 0;
+    let mut i: usize = 0;
+    loop {
+        while i < 12 {
+            let step = steps.all[i];
+            let f = step.0;
+            let w = step.1 as usize;
+            let v = pmd::number_of(pmd::turn_value(f, bits::fetch(s, at, w)));
+            numbers[n] = v;
+            at += w;
+            n += 1;
+            i = pmd::next_step(step, v);
+        }
+        if 8 * s.len() - at < 8 {
+            return;
+        }
+        i = 0;
+    }
+}
+
+// Reads turnarounds as `pmd_read` does.
+fn read_turnarounds(value: &[u8], numbers: &mut [u32]) -> Answer
+    requires { ⌜ length (now value) ≤ 4096 ⌝ }
+    ensures { λ r. ⌜ Delivered (within (length (now (numbers .entry))) (readAll K.Etd (now (value .entry)))) (now (numbers .entry)) r (now (numbers .exit)) ⌝ }
+{
+    let counted = count_turnarounds(value);
+    let Answer::Done(size) = counted else {
+        return counted;
+    };
+    if numbers.len() < size {
+        return pmd::refused(Refusal::NoRoom, 0);
+    }
+    fill_turnarounds(value, &mut *numbers);
+    Answer::Done(size)
+}
+
 // Reads a value of this kind into `numbers`, and answers how many numbers it is: all its fields in order, terminators and characters
 // included. Numbers after them do not change; a refusal changes none.
 pub fn pmd_read(kind: u32, value: &[u8], numbers: &mut [u32]) -> Answer
@@ -93,6 +183,9 @@ pub fn pmd_read(kind: u32, value: &[u8], numbers: &mut [u32]) -> Answer
         return pmd::refused(Refusal::Big, 0);
     }
     let shape = pmd::shape_of(known);
+    if shape.size == 0 {
+        return read_turnarounds(value, &mut *numbers);
+    }
     let counted = count(shape, value);
     let Answer::Done(n) = counted else {
         return counted;

@@ -16,21 +16,23 @@ use Rattle.bits.proofs.Penned.{pen-start, length-penned, pen-on, pen-moved, pen
 use Rattle.refusals.specs.Outcomes.{Outcome, fine, andThen}
 use Rattle.refusals.specs.declared.Answer.the-variants as A
 use Rattle.refusals.specs.Lent.{Delivered}
+use Rattle.pmd.specs.Fields.{Field}
 use Rattle.pmd.specs.declared.Piece.{Piece}
 use Rattle.pmd.specs.declared.Shape.{Shape}
 use Rattle.pmd.specs.declared.Value.{Value}
-use Rattle.pmd.specs.Table.{typed}
-use Rattle.pmd.specs.Records.{goesOn}
+use Rattle.pmd.specs.Table.{widthOf, typed, Part}
+use Rattle.pmd.specs.Records.{fits, after}
 use Rattle.pmd.specs.Writing.{packed, packing}
-use Rattle.pmd.specs.Shapes.{asNumber, Roomy}
+use Rattle.pmd.specs.Shapes.{fieldIn, asNumber, goesOn, Roomy}
 use Rattle.refusals.proofs.Lent.{delivered-fine}
 use Rattle.pmd.proofs.Fields.{number-value}
 use Rattle.pmd.proofs.Records.{fits-lt}
+use Rattle.pmd.proofs.Next.{Next}
 use Rattle.pmd.proofs.Packed.{packed-one}
-use Rattle.pmd.proofs.Walk.{Fields, fields-narrow}
+use Rattle.pmd.proofs.Walk.{Fields}
 use Rattle.pmd.proofs.Frame.{Frame, frame-then, frame-over}
-use Rattle.pmd_write.specs.ByShape.{writeShape}
-use Rattle.pmd_write.proofs.Laid.{Run, due, due-on, due-there, due-good, due-room}
+use Rattle.pmd_write.specs.ByShape.{writeBy, writeShape}
+use Rattle.pmd_write.proofs.Laid.{Run, number-narrow, number-on, number-there, number-good, number-room, InShape, due, due-next, due-after}
 
 pub record Inked (pen : Pen) (out bs : List ℕ) : Type 0 where
   pub ok : PenOk pen out
@@ -42,26 +44,33 @@ inked-begins out = record { ok = record { few = lit< tt; small = lit< tt; inside
 pub inked-long : {pen : Pen} {out bs : List ℕ} → Inked pen out bs → length bs ≡ 8 * pen .at + pen .count
 inked-long k = ap length (sym (k .wrote)) ∙ length-penned (k .ok)
 
--- where a number is due, in a list whose bits have room: r, which went through its value, is put
-module _ {pen : Pen} {out : List ℕ} {shape : Shape} {vs : List ℕ} {n₀ n i room : ℕ} {p : Piece} {more : Bool} (f : Fields (Run (Inked pen out) shape vs n) shape i p n₀ n more) (goes : more ≡ true) (roomy : Roomy (writeShape shape vs) room) {x : Value} {r : ℕ} (ex : x ≡ typed (p .0) (getD vs n 0)) (er : r ≡ asNumber x) where
+-- where the number of a field of w bits is next, in a list whose bits have room: r, which went through its value, is put
+module _ {pen : Pen} {out : List ℕ} {again first : List Part} {vs : List ℕ} {n w room : ℕ} {left : List Part} {f : Field} (o : Run (Inked pen out) again first vs n left) (next : Next f left) (wide : w ≡ widthOf f) (roomy : Roomy (writeBy again first vs) room) {x : Value} {r : ℕ} (ex : x ≡ typed f (getD vs n 0)) (er : r ≡ asNumber x) where
   is : r ≡ getD vs n 0
-  is = er ∙ ap asNumber ex ∙ number-value (p .0) (getD vs n 0)
+  is = er ∙ ap asNumber ex ∙ number-value f (getD vs n 0)
 
-  pub inked-fits : room ≤ 8 * length out → PenFits pen (p .1) r out
-  inked-fits l = record {
-    pen = due f goes .also .ok;
-    width = fields-narrow f .1;
-    value =
-        subst (λ (v : ℕ). v < 2 ^ p .1) (sym is) (subst (λ (m : ℕ). getD vs n 0 < 2 ^ m) (sym (f .wide)) (fits-lt (p .0) (getD vs n 0) (due-good f goes roomy)));
-    room = omega (arith, due-room f goes roomy, inked-long (due f goes .also));
+  pub number-fits : room ≤ 8 * length out → PenFits pen w r out
+  number-fits l = record {
+    pen = o .also .ok;
+    width = number-narrow o next wide;
+    value = subst (λ (m : ℕ). r < 2 ^ m) (sym wide) (fits-lt f r (ap (fits f) is ∙ number-good o next wide roomy));
+    room = omega (arith, number-room o next wide roomy, inked-long (o .also));
   }
 
-  pub inked-on : {q : Pen} {after : List ℕ} {next : Bool} → PenFits pen (p .1) r out → PutField pen (p .1) r out q after → next ≡ goesOn (p .2) r
-      → Fields (Run (Inked q after) shape vs (n + 1)) shape i p n₀ (n + 1) next
-  inked-on {q} {after} fits put e =
-      let bs = due f goes .bs in
-      let on : Inked q after (bs ++ digits 2 (p .1) r) = record { ok = pen-ok fits put; wrote = pen-on fits put ∙ ap (λ (l : List ℕ). l ++ digits 2 (p .1) r) (due f goes .also .wrote) } in
-      due-on f goes (due-there f goes roomy) (due-good f goes roomy) (e ∙ ap (goesOn (p .2)) is) (subst (λ (v : ℕ). Inked q after (bs ++ digits 2 (p .1) v)) is on)
+  pub number-put : {q : Pen} {inked : List ℕ} → PenFits pen w r out → PutField pen w r out q inked → Run (Inked q inked) again first vs (n + 1) (after left r)
+  number-put {q} {inked} fit put =
+      let on : Inked q inked (o .bs ++ digits 2 w r) = record { ok = pen-ok fit put; wrote = pen-on fit put ∙ ap (λ (l : List ℕ). l ++ digits 2 w r) (o .also .wrote) } in
+      subst (λ (v : ℕ). Run (Inked q inked) again first vs (n + 1) (after left v)) (sym is)
+      (number-on o next wide (number-there o next wide roomy) (number-good o next wide roomy) (subst (λ (v : ℕ). Inked q inked (o .bs ++ digits 2 w v)) is on))
+
+-- a number of a piece is due
+module _ {pen : Pen} {out : List ℕ} {shape : Shape} {vs : List ℕ} {n₀ n i room : ℕ} {p : Piece} {more : Bool} (f : Fields (InShape (Inked pen out) shape vs n) shape i p n₀ n more) (goes : more ≡ true) (roomy : Roomy (writeShape shape vs) room) {x : Value} {r : ℕ} (ex : x ≡ typed (fieldIn (p .0)) (getD vs n 0)) (er : r ≡ asNumber x) where
+  pub due-fits : room ≤ 8 * length out → PenFits pen (p .1) r out
+  due-fits = number-fits (due f goes) (due-next f goes) (f .wide) roomy ex er
+
+  pub due-put : {q : Pen} {inked : List ℕ} {goes-on : Bool} → PenFits pen (p .1) r out → PutField pen (p .1) r out q inked → goes-on ≡ goesOn (p .2) r
+      → Fields (InShape (Inked q inked) shape vs (n + 1)) shape i p n₀ (n + 1) goes-on
+  due-put fit put e = due-after f goes r e (number-put (due f goes) (due-next f goes) (f .wide) roomy ex er fit put)
 
 pub frame-put : {pen q : Pen} {w v : ℕ} {out after : List ℕ} → PenFits pen w v out → PutField pen w v out q after → Frame out (pen .at) after (q .at)
 frame-put fits put = record { since = omega (arith, pen-moved fits put, pen-ok fits put .few); long = pen-length fits put; rest = pen-rest fits put }

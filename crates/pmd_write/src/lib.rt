@@ -3,6 +3,7 @@ use bits::Pen;
 use pmd::Field;
 use pmd::Named;
 use pmd::Shape;
+use pmd::TurnField;
 use refusals::Answer;
 use refusals::Refusal;
 ghost use mathlib.Core.Path.{_≡_};
@@ -12,17 +13,26 @@ ghost use lib.ListN.{length};
 ghost use Rattle.refusals.specs.Outcomes.{answered};
 ghost use Rattle.pmd.specs.Table.{widthOf};
 ghost use Rattle.refusals.specs.Lent.{within, Delivered};
-ghost use Rattle.pmd.specs.Writing.{packing, fieldsWritten};
+ghost use Rattle.pmd.specs.declared.Kind.the-variants as K;
+ghost use Rattle.pmd.specs.Writing.{packing, writeAll, fieldsWritten};
 ghost use Rattle.pmd.specs.Records.{fits};
-ghost use Rattle.pmd.specs.Shapes.{Walkable, Roomy};
+ghost use Rattle.pmd.specs.Shapes.{fieldIn, turnIn, Walkable, Roomy};
 ghost use Rattle.pmd_write.specs.ByShape.{writeShape, weight};
 
 // Whether a field of w bits takes the number v.
 fn takes(f: Field, w: usize, v: u32) -> bool
-    requires { ⌜ w ≡ widthOf f ⌝ }
-    ensures { λ r. ⌜ r ≡ fits f v ⌝ }
+    requires { ⌜ w ≡ widthOf (fieldIn f) ⌝ }
+    ensures { λ r. ⌜ r ≡ fits (fieldIn f) v ⌝ }
 {
     v < 1 << w && pmd::holds(pmd::value_of(f, v))
+}
+
+// The same of a turnaround's field.
+fn turn_takes(f: TurnField, w: usize, v: u32) -> bool
+    requires { ⌜ w ≡ widthOf (turnIn f) ⌝ }
+    ensures { λ r. ⌜ r ≡ fits (turnIn f) v ⌝ }
+{
+    v < 1 << w && pmd::holds(pmd::turn_value(f, v))
 }
 
 // The bits of a value of 4,096 bytes: no value has more.
@@ -105,6 +115,82 @@ fn put(shape: Shape, numbers: &[u32], out: &mut [u8]) -> Answer
     }
 }
 
+// How many bits the numbers take as turnarounds, or what is wrong with them; a list that is too long for any count is not weighed, as in `weigh`.
+fn weigh_turnarounds(numbers: &[u32]) -> Answer
+    ensures { λ r. ⌜ r ≡ answered (weight (now (numbers .entry))) (writeAll K.Etd (now (numbers .entry))) ⌝ }
+{
+    let steps = pmd::turnaround();
+    let few = numbers.len() <= MOST_BITS;
+    let mut total = choose(few, 0, MOST_BITS + 1);
+    let mut n: usize = 0;
+    let mut i: usize = 0;
+    loop {
+        while i < 12 {
+            let step = steps.all[i];
+            let f = step.0;
+            let w = step.1 as usize;
+            if numbers.len() <= n {
+                return pmd::refused(Refusal::Bits, n);
+            }
+            let v = numbers[n];
+            if !turn_takes(f, w, v) {
+                return pmd::refused(Refusal::Field, n);
+            }
+            total += choose(few, w, 0);
+            n += 1;
+            i = pmd::next_step(step, v);
+        }
+        if numbers.len() <= n {
+            return Answer::Done(total);
+        }
+        i = 0;
+    }
+}
+
+// Puts the numbers of turnarounds that were weighed and have room, and answers how many bytes they are.
+fn put_turnarounds(numbers: &[u32], out: &mut [u8]) -> Answer
+    requires { ⌜ Roomy (writeAll K.Etd (now numbers)) (8 * length (now out)) ⌝ }
+    ensures { λ r. ⌜ Delivered (packing (writeAll K.Etd (now (numbers .entry)))) (now (out .entry)) r (now (out .exit)) ⌝ }
+{
+    let steps = pmd::turnaround();
+    let mut pen = Pen {
+        at: 0,
+        count: 0,
+        held: 0,
+    };
+    let mut n: usize = 0;
+    let mut i: usize = 0;
+    loop {
+        while i < 12 {
+            let step = steps.all[i];
+            let f = step.0;
+            let w = step.1 as usize;
+            let v = pmd::number_of(pmd::turn_value(f, numbers[n]));
+            pen = bits::put_field(&mut *out, pen, w, v);
+            n += 1;
+            i = pmd::next_step(step, v);
+        }
+        if numbers.len() <= n {
+            return Answer::Done(bits::close_pen(&mut *out, pen));
+        }
+        i = 0;
+    }
+}
+
+// Writes turnarounds as `pmd_write` does.
+fn write_turnarounds(numbers: &[u32], out: &mut [u8]) -> Answer
+    ensures { λ r. ⌜ Delivered (within (length (now (out .entry))) (within 4096 (packing (writeAll K.Etd (now (numbers .entry)))))) (now (out .entry)) r (now (out .exit)) ⌝ }
+{
+    let weighed = weigh_turnarounds(numbers);
+    let Answer::Done(total) = weighed else {
+        return weighed;
+    };
+    if MOST_BITS < total || out.len() < (total + 7) / 8 {
+        return pmd::refused(Refusal::NoRoom, 0);
+    }
+    put_turnarounds(numbers, &mut *out)
+}
+
 // Writes the numbers as a value of this kind into `out`, and answers how many bytes it is. Bytes after it do not change; a refusal
 // changes none.
 pub fn pmd_write(kind: u32, numbers: &[u32], out: &mut [u8]) -> Answer
@@ -114,6 +200,9 @@ pub fn pmd_write(kind: u32, numbers: &[u32], out: &mut [u8]) -> Answer
         return pmd::refused(Refusal::Kind, 0);
     };
     let shape = pmd::shape_of(known);
+    if shape.size == 0 {
+        return write_turnarounds(numbers, &mut *out);
+    }
     let weighed = weigh(shape, numbers);
     let Answer::Done(total) = weighed else {
         return weighed;

@@ -1,4 +1,4 @@
--- 01's examples marked P, computed from the definitions.
+-- 01's examples marked P, and those of turnarounds, computed from the definitions.
 use mathlib.Core.Path.{refl}
 use Rattle.runs.specs.Digits.{digits, numberFrom}
 use Rattle.runs.specs.Same.{same}
@@ -16,10 +16,15 @@ use Rattle.pack.specs.Meaning.{meant}
 use Rattle.pmd.specs.Reading as pmd
 use Rattle.pmd.specs.Records as records
 use Rattle.pmd.specs.Gain.{levelOf}
-use Rattle.promises.specs.Bench.{All, table}
+use Rattle.promises.specs.Bench.{All, table, turnarounds}
 
 -- Every line of 01 that is marked P holds.
 pub bench : All table
 unfolding All digits numberFrom same andThen tagFrom tagAt longAt lengthAt bigAt bits key utilityLabels valueFound tagFound payloadAt innerAt nameFrom innersFrom judged itemAt someInside itemsFrom valueStart configMaps openingAt readFrom reading meant pmd.padding pmd.readFrom pmd.readAs records.width records.takes records.after records.closed records.opened levelOf
 bench =
     (refl, (refl, (refl, (refl, (refl, (refl, (refl, (refl, (refl, (refl, (refl, (refl, (refl, (refl, (refl, (refl, (refl, tt)))))))))))))))))
+
+-- And every example of a turnaround.
+pub bench-turnarounds : All turnarounds
+unfolding All digits numberFrom andThen bits pmd.padding pmd.readFrom pmd.readAs records.width records.takes records.after records.closed records.opened
+bench-turnarounds = (refl, (refl, (refl, (refl, (refl, (refl, (refl, (refl, tt))))))))

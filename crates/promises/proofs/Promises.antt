@@ -348,8 +348,8 @@ pmd-write-unchanged kind numbers {before} x = edge.unchanged x (edge.lent-unchan
 pub rows-most : (pack : List ℕ) {before after : List ℕ} {a : Told} → Bytes pack → BwRead pack before a after → a .number ≡ 0 → a .value ≤ 520
 rows-most = most.rows-most
 
--- `bw_pmd_read` never writes more than 5,461 numbers, which is what the header calls BW_PMD_NUMBERS_MAX.
-pub pmd-numbers-most : (kind : ℕ) (value : List ℕ) {before after : List ℕ} {a : Told} → BwPmdRead kind value before a after → a .number ≡ 0 → a .value ≤ 5461
+-- `bw_pmd_read` never writes more than 9,828 numbers, which is what the header calls BW_PMD_NUMBERS_MAX.
+pub pmd-numbers-most : (kind : ℕ) (value : List ℕ) {before after : List ℕ} {a : Told} → BwPmdRead kind value before a after → a .number ≡ 0 → a .value ≤ 9828
 pmd-numbers-most = most.pmd-numbers-most
 
 -- A refusal of `bw_check` is that of `bw_read`. Where it counts, `bw_read` writes eight numbers for the pack and for each item and inner payload, and

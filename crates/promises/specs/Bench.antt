@@ -1,4 +1,5 @@
--- Trusted. The bench examples of document 01 that are marked P, as one table. The key and the three labels stand here byte for byte.
+-- Trusted. The bench examples of document 01 that are marked P, as one table, and those of turnarounds. The key and the three labels stand here byte for
+-- byte.
 use mathlib.Core.Path.{_≡_}
 use mathlib.Core.List.{List, [], _∷_, _++_}
 use Prim.Native.Nat.{ℕ}
@@ -70,4 +71,19 @@ table =
     ∷ gain 1 (G.HalfDecibels (negsuc 49))
     ∷ gain 51 (G.HalfDecibels (pos 0))
     ∷ gain 63 (G.HalfDecibels (pos 12))
+    ∷ []
+
+-- Kind 7: neither deliverable; ED2 with one pair, and the parameter set of its closing pair; Dolby E with the last rate, configuration and presentation. Then
+-- what is reserved: a rate of 6, a configuration of 24, and an id of 0, where 8 bits that are left begin another record; a closing pair that is cut off; and
+-- a number that is no kind.
+abbrev pub turnarounds : List Line
+turnarounds =
+    value 7 (0x07 ∷ 0x00 ∷ []) (fine (7 ∷ 0 ∷ 0 ∷ []))
+    ∷ value 7 (0x01 ∷ 0x98 ∷ 0x14 ∷ 0x24 ∷ 0x00 ∷ 0x06 ∷ []) (fine (1 ∷ 1 ∷ 3 ∷ 5 ∷ 9 ∷ 0 ∷ 3 ∷ 0 ∷ []))
+    ∷ value 7 (0x01 ∷ 0x56 ∷ 0xFF ∷ 0xF0 ∷ 0x00 ∷ 0x07 ∷ 0xF8 ∷ []) (fine (1 ∷ 0 ∷ 1 ∷ 5 ∷ 23 ∷ 511 ∷ 0 ∷ 0 ∷ 255 ∷ []))
+    ∷ value 7 (0x01 ∷ 0xB0 ∷ 0x00 ∷ 0x00 ∷ []) (refused R.Field 9)
+    ∷ value 7 (0x01 ∷ 0x47 ∷ 0x00 ∷ 0x00 ∷ 0x00 ∷ []) (refused R.Field 14)
+    ∷ value 7 (0x07 ∷ 0x00 ∷ 0x00 ∷ []) (refused R.Field 10)
+    ∷ value 7 (0x01 ∷ 0x98 ∷ 0x00 ∷ []) (refused R.Bits 22)
+    ∷ value 8 (0x07 ∷ 0x00 ∷ []) (refused R.Kind 0)
     ∷ []

@@ -1,15 +1,14 @@
 -- `pmd_read::count` meets its contract. Its loops keep that the numbers found so far, before what is read from here on, are the whole reading.
 use Prim.Native.Nat.{ℕ, _-_, _*_}
-use mathlib.Core.Path.{_≡_, refl, sym, ap, _∙_}
+use mathlib.Core.Path.{_≡_, refl, sym, _∙_}
 use mathlib.Core.List.{List, []}
 use native.Mathlib.Omega.{arith}
 use borrow.Author.Needs.{needs}
 use borrow.Author.Tests.{not-true, not-false}
 use lib.ListN.{length}
-use Rattle.refusals.proofs.Lent.{answers, counts}
-use Rattle.refusals.specs.declared.Answer.the-variants as A
+use Rattle.refusals.proofs.Lent.{answers}
 use Rattle.pmd.proofs.Walk.{Records, Pieces, Fields, pieces-begin, fields-begin, pieces-on, pieces-over}
-use Rattle.pmd_read.proofs.Kept.{Found, found-none, due-fits, due-short, due-bad, due-on, over-ends, over-pad, over-again}
+use Rattle.pmd_read.proofs.Kept.{InShape, found-none, due-fits, due-short, due-bad, due-on, over-answers, over-again}
 use Rattle.pmd_read.proofs.count.Statement.{statement}
 use Rattle.pmd_read.proofs.count.Tie as tie
 
@@ -18,19 +17,19 @@ abbrev Any : List ℕ → Type 0
 Any xs = xs ≡ xs
 
 abbrev Inv-loop3 : tie.InvT-loop3
-Inv-loop3 s shape at₀ n₀ i piece f w more₀ at n more = Fields (Found Any shape s at n) shape i piece at₀ at more
+Inv-loop3 s shape at₀ n₀ i piece f w more₀ at n more = Fields (InShape Any shape s at n) shape i piece at₀ at more
 
 abbrev μ-loop3 : tie.MeasureT-loop3
 μ-loop3 s shape at₀ n₀ i piece f w more₀ at n more = 8 * length s - at
 
 abbrev Inv-loop2 : tie.InvT-loop2
-Inv-loop2 s shape at₀ n₀ i₀ at n i = Pieces (Found Any shape s at n) shape at₀ i₀ at i
+Inv-loop2 s shape at₀ n₀ i₀ at n i = Pieces (InShape Any shape s at n) shape at₀ i₀ at i
 
 abbrev μ-loop2 : tie.MeasureT-loop2
 μ-loop2 s shape at₀ n₀ i₀ at n i = shape .size - i
 
 abbrev Inv-loop : tie.InvT-loop
-Inv-loop s shape at₀ n₀ i₀ at n i = Records (Found Any shape s at n) shape i
+Inv-loop s shape at₀ n₀ i₀ at n i = Records (InShape Any shape s at n) shape i
 
 abbrev μ-loop : tie.MeasureT-loop
 μ-loop s shape at₀ n₀ i₀ at n i = 8 * length s - at
@@ -42,7 +41,7 @@ start c = c .before .before .before .before
 abbrev turn : tie.After-holds Inv-loop3 μ-loop3 Inv-loop2 μ-loop2 Inv-loop μ-loop → tie.In-loop3 Inv-loop3 μ-loop3 Inv-loop2 μ-loop2 Inv-loop μ-loop
 turn c = c .before .before .before .before
 
-over : (c : tie.After-loop2 Inv-loop3 μ-loop3 Inv-loop2 μ-loop2 Inv-loop μ-loop) → Found Any (start c .args .t1) (start c .args .s .now) (c .before .loop2 .at) (c .before .loop2 .n) []
+over : (c : tie.After-loop2 Inv-loop3 μ-loop3 Inv-loop2 μ-loop2 Inv-loop μ-loop) → InShape Any (start c .args .t1) (start c .args .s .now) (c .before .loop2 .at) (c .before .loop2 .n) []
 over c = pieces-over (start c .pre .1) (c .loop2-test .left) (c .before .loop2 .inv)
 
 returns-2 : tie.Need-returns-2 Inv-loop3 μ-loop3 Inv-loop2 μ-loop2 Inv-loop μ-loop
@@ -58,17 +57,6 @@ loop3-again c =
     let h = c .before .before in
     let t = turn h in
     due-on (t .before .loop3 .inv) (t .loop3-test .taken) (h .before .before .before .if1 .left) (h .before .before .fetch .ensures) (h .before .value-of .ensures) (sym (h .holds .ensures) ∙ not-false _ (c .before .if2 .left)) (c .goes-on .ensures) refl
-
-returns-3 : tie.Need-returns-3 Inv-loop3 μ-loop3 Inv-loop2 μ-loop2 Inv-loop μ-loop
-returns-3 c =
-    let o = over (c .before .before .before) in
-    counts length (over-ends o (omega (arith, c .before .before .if3 .taken)) (c .before .fetch2 .ensures) (c .if4 .taken)) (ap A.Done (sym (o .long)))
-
-returns-4 : tie.Need-returns-4 Inv-loop3 μ-loop3 Inv-loop2 μ-loop2 Inv-loop μ-loop
-returns-4 c =
-    answers length
-    (over-pad (over (c .before .before .before .before)) (omega (arith, c .before .before .before .if3 .taken)) (c .before .before .fetch2 .ensures) (c .before .if4 .left))
-    (c .refused3 .ensures)
 
 pub count-spec : {M : Type 1} → statement M
 count-spec =
@@ -105,9 +93,7 @@ count-spec =
     (λ c. pieces-on (c .before .loop3 .inv) (c .before .before .before .before .before .loop2 .inv) (c .loop3-test .left))
     (λ c. search needs)
     (λ c. c .before .loop2 .inv .known .inside)
-    (λ c κs. let i = c .before .before .loop2 .inv .known .inside in (omega (arith, c .if3 .taken), (omega (arith, i), omega arith)))
-    returns-3
-    (λ c κs. search needs)
-    returns-4
+    (λ c κs. let i = c .before .before .loop2 .inv .known .inside in (search needs, (omega (arith, i), c .if3 .taken)))
+    (λ c. over-answers (over (c .before .before)) (c .before .if3 .taken) (c .ended .ensures))
     (λ c. omega (arith, c .before .before .loop2 .inv .gone, c .before .before .before .loop .inv .there, c .before .loop2-test .left, c .if3 .left))
     (λ c. over-again (over (c .before)) (start (c .before) .pre .1) (omega (arith, c .if3 .left))))

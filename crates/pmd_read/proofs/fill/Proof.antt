@@ -8,26 +8,26 @@ use borrow.Author.Needs.{needs}
 use lib.ListN.{length}
 use Rattle.pmd.proofs.Walk.{Records, Pieces, Fields, pieces-begin, fields-begin, pieces-on, pieces-over}
 use Rattle.pmd.proofs.Frame.{Frame, frame-begins, frame-then, frame-set}
-use Rattle.pmd_read.proofs.Kept.{Found, found-none, due, due-sure, due-stored, over-again, over-stored}
+use Rattle.pmd_read.proofs.Kept.{InShape, found-none, due, due-sure, due-stored, over-again, over-stored}
 use Rattle.pmd_read.proofs.Stored.{Stored, stored-on, stored-ends}
 use Rattle.pmd_read.proofs.fill.Statement.{statement}
 use Rattle.pmd_read.proofs.fill.Tie as tie
 
 abbrev Inv-loop3 : tie.InvT-loop3
 Inv-loop3 s numbers₀ shape at₀ n₀ i piece f w more₀ numbers at n more =
-    Fields (Found (Stored numbers n) shape s at n) shape i piece at₀ at more × Frame numbers₀ n₀ numbers n
+    Fields (InShape (Stored numbers n) shape s at n) shape i piece at₀ at more × Frame numbers₀ n₀ numbers n
 
 abbrev μ-loop3 : tie.MeasureT-loop3
 μ-loop3 s numbers₀ shape at₀ n₀ i piece f w more₀ numbers at n more = 8 * length s - at
 
 abbrev Inv-loop2 : tie.InvT-loop2
-Inv-loop2 s numbers₀ shape at₀ n₀ i₀ numbers at n i = Pieces (Found (Stored numbers n) shape s at n) shape at₀ i₀ at i × Frame numbers₀ n₀ numbers n
+Inv-loop2 s numbers₀ shape at₀ n₀ i₀ numbers at n i = Pieces (InShape (Stored numbers n) shape s at n) shape at₀ i₀ at i × Frame numbers₀ n₀ numbers n
 
 abbrev μ-loop2 : tie.MeasureT-loop2
 μ-loop2 s numbers₀ shape at₀ n₀ i₀ numbers at n i = shape .size - i
 
 abbrev Inv-loop : tie.InvT-loop
-Inv-loop s numbers₀ shape at₀ n₀ i₀ numbers at n i = Records (Found (Stored numbers n) shape s at n) shape i × Frame numbers₀ n₀ numbers n
+Inv-loop s numbers₀ shape at₀ n₀ i₀ numbers at n i = Records (InShape (Stored numbers n) shape s at n) shape i × Frame numbers₀ n₀ numbers n
 
 abbrev μ-loop : tie.MeasureT-loop
 μ-loop s numbers₀ shape at₀ n₀ i₀ numbers at n i = 8 * length s - at
@@ -44,7 +44,7 @@ turn c = c .before .before .before
 
 -- what is known where a record is closed
 module _ (c : tie.After-loop2 Inv-loop3 μ-loop3 Inv-loop2 μ-loop2 Inv-loop μ-loop) where
-  over : Found (Stored (c .before .loop2 .numbers) (c .before .loop2 .n)) (begin c .args .t1) (begin c .args .s .now) (c .before .loop2 .at) (c .before .loop2 .n) []
+  over : InShape (Stored (c .before .loop2 .numbers) (c .before .loop2 .n)) (begin c .args .t1) (begin c .args .s .now) (c .before .loop2 .at) (c .before .loop2 .n) []
   over = pieces-over (begin c .pre .1 .0) (c .loop2-test .left) (c .before .loop2 .inv .0)
 
   kept-rest : Frame (begin c .args .numbers .now) 0 (c .before .loop2 .numbers) (c .before .loop2 .n)

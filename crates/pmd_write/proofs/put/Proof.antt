@@ -10,26 +10,26 @@ use Rattle.bits.specs.Pen.{PenFits}
 use Rattle.bits.proofs.Penned.{closed-length}
 use Rattle.pmd.proofs.Walk.{Records, Pieces, Fields, blank, pieces-begin, fields-begin, pieces-on, pieces-over}
 use Rattle.pmd.proofs.Frame.{Frame, frame-begins, frame-then}
-use Rattle.pmd_write.proofs.Laid.{Run, run-none, due-there, over-ends, over-again}
-use Rattle.pmd_write.proofs.Inked.{Inked, inked-begins, inked-fits, inked-on, inked-ends, frame-put}
+use Rattle.pmd_write.proofs.Laid.{InShape, run-none, due-there, over-ends, over-again}
+use Rattle.pmd_write.proofs.Inked.{Inked, inked-begins, due-fits, due-put, inked-ends, frame-put}
 use Rattle.pmd_write.proofs.put.Statement.{statement}
 use Rattle.pmd_write.proofs.put.Tie as tie
 
 abbrev Inv-loop3 : tie.InvT-loop3
 Inv-loop3 numbers out₀ shape pen₀ n₀ i piece f w more₀ out pen n more =
-    Fields (Run (Inked pen out) shape numbers n) shape i piece n₀ n more × Frame out₀ (pen₀ .at) out (pen .at)
+    Fields (InShape (Inked pen out) shape numbers n) shape i piece n₀ n more × Frame out₀ (pen₀ .at) out (pen .at)
 
 abbrev μ-loop3 : tie.MeasureT-loop3
 μ-loop3 numbers out₀ shape pen₀ n₀ i piece f w more₀ out pen n more = length numbers - n
 
 abbrev Inv-loop2 : tie.InvT-loop2
-Inv-loop2 numbers out₀ shape pen₀ n₀ i₀ out pen n i = Pieces (Run (Inked pen out) shape numbers n) shape n₀ i₀ n i × Frame out₀ (pen₀ .at) out (pen .at)
+Inv-loop2 numbers out₀ shape pen₀ n₀ i₀ out pen n i = Pieces (InShape (Inked pen out) shape numbers n) shape n₀ i₀ n i × Frame out₀ (pen₀ .at) out (pen .at)
 
 abbrev μ-loop2 : tie.MeasureT-loop2
 μ-loop2 numbers out₀ shape pen₀ n₀ i₀ out pen n i = shape .size - i
 
 abbrev Inv-loop : tie.InvT-loop
-Inv-loop numbers out₀ shape pen₀ n₀ i₀ out pen n i = Records (Run (Inked pen out) shape numbers n) shape i × Frame out₀ (pen₀ .at) out (pen .at)
+Inv-loop numbers out₀ shape pen₀ n₀ i₀ out pen n i = Records (InShape (Inked pen out) shape numbers n) shape i × Frame out₀ (pen₀ .at) out (pen .at)
 
 abbrev μ-loop : tie.MeasureT-loop
 μ-loop numbers out₀ shape pen₀ n₀ i₀ out pen n i = length numbers - n
@@ -46,7 +46,7 @@ turn c = c .before .before .before
 
 -- what is known where a record is closed
 module _ (c : tie.After-loop2 Inv-loop3 μ-loop3 Inv-loop2 μ-loop2 Inv-loop μ-loop) where
-  over : Run (Inked (c .before .loop2 .pen) (c .before .loop2 .out)) (begin c .args .t1) (begin c .args .numbers .now) (c .before .loop2 .n) []
+  over : InShape (Inked (c .before .loop2 .pen) (c .before .loop2 .out)) (begin c .args .t1) (begin c .args .numbers .now) (c .before .loop2 .n) []
   over = pieces-over (begin c .pre .0) (c .loop2-test .left) (c .before .loop2 .inv .0)
 
   kept-rest : Frame (begin c .args .out .now) 0 (c .before .loop2 .out) (c .before .loop2 .pen .at)
@@ -60,7 +60,7 @@ there c = due-there (c .before .loop3 .inv .0) (c .loop3-test .taken) (start c .
 fits : (c : tie.After-number-of Inv-loop3 μ-loop3 Inv-loop2 μ-loop2 Inv-loop μ-loop) → PenFits (turn c .before .loop3 .pen) (getD (start (turn c) .args .t1 .pieces) (turn c .before .before .before .before .before .loop2 .i) blank .1) (c .number-of .result) (turn c .before .loop3 .out)
 fits c =
     let t = turn c in
-    inked-fits (t .before .loop3 .inv .0) (t .loop3-test .taken) (start t .pre .1) (c .before .value-of .ensures) (c .number-of .ensures)
+    due-fits (t .before .loop3 .inv .0) (t .loop3-test .taken) (start t .pre .1) (c .before .value-of .ensures) (c .number-of .ensures)
     (omega (arith, t .before .loop3 .inv .1 .long, t .before .before .before .before .before .loop2 .inv .1 .long, t .before .before .before .before .before .before .loop .inv .1 .long))
 
 loop3-again : tie.Need-loop3-again Inv-loop3 μ-loop3 Inv-loop2 μ-loop2 Inv-loop μ-loop
@@ -69,7 +69,7 @@ loop3-again c =
     let t = turn h in
     let f = t .before .loop3 .inv in
     let put = c .before .before .before .put-field .ensures in
-    (inked-on (f .0) (t .loop3-test .taken) (start t .pre .1) (h .before .value-of .ensures) (h .number-of .ensures) (fits h) put (c .goes-on .ensures), frame-then (f .1) (frame-put (fits h) put))
+    (due-put (f .0) (t .loop3-test .taken) (start t .pre .1) (h .before .value-of .ensures) (h .number-of .ensures) (fits h) put (c .goes-on .ensures), frame-then (f .1) (frame-put (fits h) put))
 
 loop2-again : tie.Need-loop2-again Inv-loop3 μ-loop3 Inv-loop2 μ-loop2 Inv-loop μ-loop
 loop2-again c =

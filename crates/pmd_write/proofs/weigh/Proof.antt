@@ -9,26 +9,26 @@ use borrow.Author.Tests.{not-true, not-false}
 use lib.ListN.{length}
 use Rattle.refusals.specs.declared.Answer.the-variants as A
 use Rattle.refusals.proofs.Lent.{answers, counts}
-use Rattle.pmd.proofs.Walk.{Records, Pieces, Fields, pieces-begin, fields-begin, fields-narrow, pieces-on, pieces-over}
+use Rattle.pmd.proofs.Walk.{Records, Pieces, Fields, pieces-begin, fields-begin, pieces-on, pieces-over}
 use Rattle.pmd_write.specs.ByShape.{weight}
-use Rattle.pmd_write.proofs.Laid.{Run, run-none, due, due-short, due-bad, due-on, over-ends, over-again, Weighs, weighs-fits, weighs-on}
+use Rattle.pmd_write.proofs.Laid.{InShape, run-none, due, due-narrow, due-short, due-bad, due-on, over-ends, over-again, Weighs, weighs-fits, weighs-on}
 use Rattle.pmd_write.proofs.weigh.Statement.{statement}
 use Rattle.pmd_write.proofs.weigh.Tie as tie
 
 abbrev Inv-loop3 : tie.InvT-loop3
-Inv-loop3 numbers shape few total₀ n₀ i piece f w step more₀ total n more = Fields (Run (Weighs numbers total n) shape numbers n) shape i piece n₀ n more
+Inv-loop3 numbers shape few total₀ n₀ i piece f w step more₀ total n more = Fields (InShape (Weighs numbers total n) shape numbers n) shape i piece n₀ n more
 
 abbrev μ-loop3 : tie.MeasureT-loop3
 μ-loop3 numbers shape few total₀ n₀ i piece f w step more₀ total n more = length numbers - n
 
 abbrev Inv-loop2 : tie.InvT-loop2
-Inv-loop2 numbers shape few total₀ n₀ i₀ total n i = Pieces (Run (Weighs numbers total n) shape numbers n) shape n₀ i₀ n i
+Inv-loop2 numbers shape few total₀ n₀ i₀ total n i = Pieces (InShape (Weighs numbers total n) shape numbers n) shape n₀ i₀ n i
 
 abbrev μ-loop2 : tie.MeasureT-loop2
 μ-loop2 numbers shape few total₀ n₀ i₀ total n i = shape .size - i
 
 abbrev Inv-loop : tie.InvT-loop
-Inv-loop numbers shape few total₀ n₀ i₀ total n i = Records (Run (Weighs numbers total n) shape numbers n) shape i
+Inv-loop numbers shape few total₀ n₀ i₀ total n i = Records (InShape (Weighs numbers total n) shape numbers n) shape i
 
 abbrev μ-loop : tie.MeasureT-loop
 μ-loop numbers shape few total₀ n₀ i₀ total n i = length numbers - n
@@ -43,7 +43,7 @@ turn c = c .before .before .before
 abbrev list : tie.In-loop3 Inv-loop3 μ-loop3 Inv-loop2 μ-loop2 Inv-loop μ-loop → List ℕ
 list c = c .before .before .before .before .before .before .before .before .before .before .args .numbers .now
 
-over : (c : tie.After-loop2 Inv-loop3 μ-loop3 Inv-loop2 μ-loop2 Inv-loop μ-loop) → Run (Weighs (start c .args .numbers .now) (c .before .loop2 .total) (c .before .loop2 .n)) (start c .args .t1) (start c .args .numbers .now) (c .before .loop2 .n) []
+over : (c : tie.After-loop2 Inv-loop3 μ-loop3 Inv-loop2 μ-loop2 Inv-loop μ-loop) → InShape (Weighs (start c .args .numbers .now) (c .before .loop2 .total) (c .before .loop2 .n)) (start c .args .t1) (start c .args .numbers .now) (c .before .loop2 .n) []
 over c = pieces-over (start c .pre) (c .loop2-test .left) (c .before .loop2 .inv)
 
 returns-2 : tie.Need-returns-2 Inv-loop3 μ-loop3 Inv-loop2 μ-loop2 Inv-loop μ-loop
@@ -58,7 +58,8 @@ add-total : tie.Need-add-total Inv-loop3 μ-loop3 Inv-loop2 μ-loop2 Inv-loop μ
 add-total c =
     let t = turn (c .before) in
     let f = t .before .loop3 .inv in
-    omega (arith, weighs-fits (due f (t .loop3-test .taken) .also) (fields-narrow f .1) (t .before .before .choose2 .ensures) (c .before .before .before .if1 .left))
+    let o = t .loop3-test .taken in
+    omega (arith, weighs-fits (due f o .also) (due-narrow f o) (t .before .before .choose2 .ensures) (c .before .before .before .if1 .left))
 
 loop3-again : tie.Need-loop3-again Inv-loop3 μ-loop3 Inv-loop2 μ-loop2 Inv-loop μ-loop
 loop3-again c =
@@ -67,7 +68,7 @@ loop3-again c =
     let f = t .before .loop3 .inv in
     let o = t .loop3-test .taken in
     due-on f o (h .before .before .if1 .left) (sym (h .takes .ensures) ∙ not-false _ (c .before .if2 .left)) (c .goes-on .ensures)
-    (weighs-on (due f o .also) (fields-narrow f .1) (t .before .before .choose2 .ensures) _)
+    (weighs-on (due f o .also) (due-narrow f o) (t .before .before .choose2 .ensures) _)
 
 pub weigh-spec : {M : Type 1} → statement M
 weigh-spec =
