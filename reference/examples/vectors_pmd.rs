@@ -22,8 +22,9 @@ const LENT_NUMBER: u32 = 99_999;
 const LENT_BYTE: u8 = 0xEE;
 /// How much of a lent run is printed.
 const SHOWN: usize = 12;
-/// What the program has room for.
+/// What the program has room for: bytes of cases, and numbers of a lent run.
 const MAX_CASES: usize = 65_536;
+const MAX_ROOM: usize = 8_192;
 
 /// A field: its width, some numbers that it takes, and some that are reserved.
 struct Field {
@@ -64,39 +65,40 @@ const GAIN: Field = field(6, &[63, 0, 51], &[]);
 const SAMPLE_TIME: Field = field(6, &[63, 0, 32], &[]);
 const SUBSTREAM: Field = field(4, &[1, 15, 8], &[0]);
 const NAME: Field = until_zero(8, &[65, 255, 1, 128]);
+const TURNAROUND: Field = field(8, &[1, 255, 128], &[0]);
+const FRAME_RATE: Field = field(4, &[1, 5, 3], &[0, 6, 15]);
+const PROGRAM_CONFIG: Field = field(5, &[0, 23, 16], &[24, 31]);
+const CARRIED: Field = field(9, &[511, 1, 256], &[]);
+const PARAMETERS: Field = field(8, &[0, 255, 128], &[]);
 
 struct Kind {
     number: u32,
     name: &'static str,
     head: &'static [Field],
     record: &'static [Field],
+    /// The fields of what a flag in each record says is there, before its list of pairs.
+    deliverables: &'static [&'static [Field]],
 }
 
-const KINDS: [Kind; 6] = [
+const fn kind(number: u32, name: &'static str, record: &'static [Field]) -> Kind {
+    Kind { number, name, head: &[], record, deliverables: &[] }
+}
+
+static KINDS: [Kind; 7] = [
+    kind(1, "apd", &[PRESENTATION, SPEAKER_CONFIG, LANGCOD, ELEMENTS]),
+    kind(2, "apn", &[PRESENTATION, LANGCOD, NAME]),
+    kind(
+        3,
+        "aod",
+        &[ELEMENT, CLASS, FLAG, COORDINATE, COORDINATE, COORDINATE, SIZE, FLAG, FLAG, SOURCE, GAIN],
+    ),
+    Kind { head: &[SAMPLE_TIME], ..kind(4, "xyz", &[ELEMENT, COORDINATE, COORDINATE, COORDINATE]) },
+    kind(5, "aen", &[ELEMENT, NAME]),
+    kind(6, "esn", &[SUBSTREAM, NAME]),
     Kind {
-        number: 1,
-        name: "apd",
-        head: &[],
-        record: &[PRESENTATION, SPEAKER_CONFIG, LANGCOD, ELEMENTS],
+        deliverables: &[&[FRAME_RATE], &[FRAME_RATE, PROGRAM_CONFIG]],
+        ..kind(7, "etd", &[TURNAROUND])
     },
-    Kind { number: 2, name: "apn", head: &[], record: &[PRESENTATION, LANGCOD, NAME] },
-    Kind {
-        number: 3,
-        name: "aod",
-        head: &[],
-        record: &[
-            ELEMENT, CLASS, FLAG, COORDINATE, COORDINATE, COORDINATE, SIZE, FLAG, FLAG, SOURCE,
-            GAIN,
-        ],
-    },
-    Kind {
-        number: 4,
-        name: "xyz",
-        head: &[SAMPLE_TIME],
-        record: &[ELEMENT, COORDINATE, COORDINATE, COORDINATE],
-    },
-    Kind { number: 5, name: "aen", head: &[], record: &[ELEMENT, NAME] },
-    Kind { number: 6, name: "esn", head: &[], record: &[SUBSTREAM, NAME] },
 ];
 
 /// A number and the field that it is for.
@@ -107,15 +109,23 @@ impl Kind {
     fn list(&'static self, records: usize) -> Vec<Told> {
         let mut list: Vec<Told> = self.head.iter().map(|f| (f.good[0], f)).collect();
         for r in 0..records {
-            for (i, f) in self.record.iter().enumerate() {
-                let entries = if f.until_zero { r } else { 1 };
-                list.extend((0..entries).map(|k| (f.good[(r + i + k) % f.good.len()], f)));
-                if f.until_zero {
-                    list.push((0, f));
-                }
-            }
+            // Both deliverables first, then each alone, then none.
+            self.put_record(r, r, r, &mut list);
         }
         list
+    }
+
+    /// Record `r`, but for the deliverables whose bits are set, with so many pairs for each.
+    fn put_record(&'static self, r: usize, without: usize, pairs: usize, list: &mut Vec<Told>) {
+        put_fields(self.record, r, list);
+        for (d, fields) in self.deliverables.iter().enumerate() {
+            let exists = without >> d & 1 == 0;
+            list.push((exists.into(), &FLAG));
+            if exists {
+                put_fields(fields, r, list);
+                put_pairs(pairs, r, list);
+            }
+        }
     }
 
     /// The first record with these entries in its list.
@@ -137,6 +147,26 @@ impl Kind {
         let record = list.split_off(self.head.len());
         list.extend((0..n).flat_map(|_| &record));
         list
+    }
+}
+
+/// The fields of record `r`.
+fn put_fields(fields: &'static [Field], r: usize, list: &mut Vec<Told>) {
+    for (i, f) in fields.iter().enumerate() {
+        let entries = if f.until_zero { r } else { 1 };
+        list.extend((0..entries).map(|k| (f.good[(r + i + k) % f.good.len()], f)));
+        if f.until_zero {
+            list.push((0, f));
+        }
+    }
+}
+
+/// So many pairs of record `r`, and the one that closes their list.
+fn put_pairs(pairs: usize, r: usize, list: &mut Vec<Told>) {
+    for k in 0..=pairs {
+        let carried = if k < pairs { CARRIED.good[k % CARRIED.good.len()] } else { 0 };
+        list.push((carried, &CARRIED));
+        list.push((PARAMETERS.good[(r + k) % PARAMETERS.good.len()], &PARAMETERS));
     }
 }
 
@@ -201,16 +231,22 @@ impl Cases {
         self.write(name, kind.number, &numbers(list), value.len() + 2);
     }
 
-    /// The lines of the outline that are marked P, and their values written.
+    /// The lines of the outline that are marked P, some of turnarounds, and their values written.
     fn outline(&mut self) {
-        let lines: [(u32, &[u8], &[u32]); 4] = [
+        let lines: [(u32, &[u8], &[u32]); 10] = [
             (4, &[0x04, 0x00, 0x40, 0x18, 0x03, 0xFF], &[1, 1, 1, 512, 1023]),
             (6, &[0x14, 0x10, 0x00], &[1, 65, 0]),
             (6, &[0x14, 0x10, 0x01], &[]),
             (1, &[0x00, 0x80, 0xAE, 0x00, 0x00, 0x00], &[1, 0, 5568, 0]),
+            (7, &[0x07, 0x00], &[7, 0, 0]),
+            (7, &[0x07, 0x00, 0x00], &[]),
+            (7, &[0x01, 0x98, 0x14, 0x24, 0x00, 0x06], &[1, 1, 3, 5, 9, 0, 3, 0]),
+            (7, &[0x01, 0x56, 0xFF, 0xF0, 0x00, 0x07, 0xF8], &[1, 0, 1, 5, 23, 511, 0, 0, 255]),
+            (7, &[0x01, 0xB0, 0x00, 0x00], &[]),
+            (7, &[0x01, 0x47, 0x00, 0x00, 0x00], &[]),
         ];
         for (kind, value, numbers) in lines {
-            self.read("outline", kind, value, 8);
+            self.read("outline", kind, value, numbers.len().max(8));
             if !numbers.is_empty() {
                 self.write("outline", kind, numbers, 8);
             }
@@ -263,7 +299,7 @@ impl Cases {
                 self.write(format!("{}, reserved", kind.name), kind.number, &numbers(&wrong), 4);
             }
         }
-        for place in (0..kind.head.len()).chain(list.len() - kind.record.len()..list.len()) {
+        for place in (0..kind.head.len()).chain(kind.list(1).len()..list.len()) {
             for wide in [1 << list[place].1.width, u32::MAX] {
                 let mut wrong = numbers(&list);
                 wrong[place] = wide;
@@ -314,9 +350,42 @@ impl Cases {
         self.write(format!("{}, longer", kind.name), kind.number, &numbers(&longer), 5000);
     }
 
+    /// The most numbers that a value can have, and one record more.
+    fn most_numbers(&mut self) {
+        let bare = |records: usize| {
+            let mut list = Vec::new();
+            (0..records).for_each(|r| KINDS[6].put_record(r, 3, 0, &mut list));
+            list
+        };
+        let (most, more) = (bare(3276), bare(3277));
+        let (value, too_long) = (packed(&most), packed(&more));
+        self.read("etd, the most numbers", 7, &value, MAX_ROOM);
+        self.read("etd, more numbers", 7, &too_long, MAX_ROOM);
+        self.read("etd, more numbers, cut off", 7, &too_long[..4096], MAX_ROOM);
+        self.write("etd, the most numbers", 7, &numbers(&most), value.len());
+        self.write("etd, the most numbers", 7, &numbers(&most), value.len() - 1);
+        self.write("etd, more numbers", 7, &numbers(&more), 5000);
+    }
+
+    /// Lists of pairs that fill a value, and one pair more, for either deliverable.
+    fn pairs(&mut self) {
+        for (deliverable, other) in [("ED2", 2), ("Dolby E", 1)] {
+            let filled = |pairs: usize| {
+                let mut list = Vec::new();
+                KINDS[6].put_record(0, other, pairs, &mut list);
+                list
+            };
+            let most = (1..).take_while(|&n| bits(&filled(n)) <= 8 * 4096).count();
+            for pairs in [most, most + 1] {
+                let name = format!("etd, {deliverable}, pairs: {pairs}");
+                self.both(name, &KINDS[6], &filled(pairs));
+            }
+        }
+    }
+
     /// What is judged before what.
     fn order(&mut self) {
-        for kind in [0, 7, 256, u32::MAX] {
+        for kind in [0, 8, 256, u32::MAX] {
             self.read("no kind", kind, &[0; 4097], 2);
             self.write("no kind", kind, &[u32::MAX], 2);
         }
@@ -359,6 +428,8 @@ fn all() -> Vec<Case> {
     KINDS.iter().for_each(|kind| cases.padding(kind));
     KINDS.iter().for_each(|kind| cases.room(kind));
     KINDS.iter().for_each(|kind| cases.long(kind));
+    cases.most_numbers();
+    cases.pairs();
     cases.order();
     cases.endless();
     cases.gains();

@@ -1,14 +1,13 @@
-//! The records of the six PMD kinds as a table.
+//! The records of the seven PMD kinds as a table.
 
 use crate::{Reason, Refusal};
 
-/// Which numbers a field refuses, besides those too wide for it.
+/// Which numbers a field takes; none of them is too wide for it.
 #[derive(Clone, Copy)]
 enum Rule {
-    Any,
-    NotZero,
+    /// From the first to the last.
+    Range(u32, u32),
     SpeakerConfig,
-    Class,
     Langcod,
 }
 
@@ -28,41 +27,70 @@ const fn once(width: u32, rule: Rule) -> Field {
     }
 }
 
+/// A field that takes numbers from `first` to `last`.
+const fn range(width: u32, first: u32, last: u32) -> Field {
+    once(width, Rule::Range(first, last))
+}
+
+const fn any(width: u32) -> Field {
+    range(width, 0, (1 << width) - 1)
+}
+
+const fn not_zero(width: u32) -> Field {
+    range(width, 1, (1 << width) - 1)
+}
+
 const fn until_zero(width: u32) -> Field {
     Field {
-        width,
-        rule: Rule::Any,
         until_zero: true,
+        ..any(width)
     }
 }
 
-const PRESENTATION: Field = once(9, Rule::NotZero);
-const ELEMENT: Field = once(12, Rule::NotZero);
-const SUBSTREAM: Field = once(4, Rule::NotZero);
+const PRESENTATION: Field = not_zero(9);
+const ELEMENT: Field = not_zero(12);
+const SUBSTREAM: Field = not_zero(4);
 const SPEAKER_CONFIG: Field = once(5, Rule::SpeakerConfig);
 const LANGCOD: Field = once(15, Rule::Langcod);
-const CLASS: Field = once(4, Rule::Class);
-const DYNAMIC: Field = once(1, Rule::Any);
-const X: Field = once(10, Rule::NotZero);
-const Y: Field = once(10, Rule::NotZero);
-const Z: Field = once(10, Rule::NotZero);
-const SIZE: Field = once(5, Rule::Any);
-const SIZE_3D: Field = once(1, Rule::Any);
-const DIVERGE: Field = once(1, Rule::Any);
-const SOURCE: Field = once(8, Rule::Any);
-const GAIN: Field = once(6, Rule::Any);
-const SAMPLE_TIME: Field = once(6, Rule::Any);
+const CLASS: Field = range(4, 0, 6);
+const DYNAMIC: Field = any(1);
+const X: Field = not_zero(10);
+const Y: Field = not_zero(10);
+const Z: Field = not_zero(10);
+const SIZE: Field = any(5);
+const SIZE_3D: Field = any(1);
+const DIVERGE: Field = any(1);
+const SOURCE: Field = any(8);
+const GAIN: Field = any(6);
+const SAMPLE_TIME: Field = any(6);
 const ELEMENTS: Field = until_zero(12);
 const NAME: Field = until_zero(8);
+const TURNAROUND: Field = not_zero(8);
+const FRAME_RATE: Field = range(4, 1, 5);
+const PROGRAM_CONFIG: Field = range(5, 0, 23);
+
+/// Whether a deliverable is described.
+pub const EXISTS: Field = any(1);
+/// A presentation that a deliverable is to carry; 0 stands in the pair that closes the list.
+pub const CARRIED: Field = any(9);
+/// The E-AC-3 parameter set of the presentation before it; 0 stands for the encoder's defaults.
+pub const PARAMETERS: Field = any(8);
 
 /// What a value of one kind is made of: fields before the first record, and those of a record.
 pub struct Grammar {
     pub start: &'static [Field],
     pub record: &'static [Field],
+    /// What ends a record: for each deliverable a flag and, if it is set, these fields and a list
+    /// of pairs.
+    pub deliverables: &'static [&'static [Field]],
 }
 
 const fn records(record: &'static [Field]) -> Grammar {
-    Grammar { start: &[], record }
+    Grammar {
+        start: &[],
+        record,
+        deliverables: &[],
+    }
 }
 
 static APD: Grammar = records(&[PRESENTATION, SPEAKER_CONFIG, LANGCOD, ELEMENTS]);
@@ -73,9 +101,15 @@ static AOD: Grammar = records(&[
 static XYZ: Grammar = Grammar {
     start: &[SAMPLE_TIME],
     record: &[ELEMENT, X, Y, Z],
+    deliverables: &[],
 };
 static AEN: Grammar = records(&[ELEMENT, NAME]);
 static ESN: Grammar = records(&[SUBSTREAM, NAME]);
+static ETD: Grammar = Grammar {
+    start: &[],
+    record: &[TURNAROUND],
+    deliverables: &[&[FRAME_RATE], &[FRAME_RATE, PROGRAM_CONFIG]],
+};
 
 /// The grammar of a kind.
 pub fn grammar(kind: u32) -> Result<&'static Grammar, Refusal> {
@@ -86,6 +120,7 @@ pub fn grammar(kind: u32) -> Result<&'static Grammar, Refusal> {
         4 => Ok(&XYZ),
         5 => Ok(&AEN),
         6 => Ok(&ESN),
+        7 => Ok(&ETD),
         _ => Err(Reason::Kind.at(0)),
     }
 }
@@ -94,19 +129,17 @@ impl Field {
     /// Whether the field can hold `number`.
     #[inline(always)]
     pub fn takes(self, number: u32) -> bool {
-        number >> self.width == 0
-            && match self.rule {
-                Rule::Any => true,
-                Rule::NotZero => number != 0,
-                Rule::SpeakerConfig => !(7..=28).contains(&number),
-                Rule::Class => number < 7,
-                Rule::Langcod => is_langcod(number),
-            }
+        match self.rule {
+            Rule::Range(first, last) => (first..=last).contains(&number),
+            Rule::SpeakerConfig => number < 32 && !(7..=28).contains(&number),
+            Rule::Langcod => is_langcod(number),
+        }
     }
 }
 
-/// Three groups of five bits, each 1 to 27; only the third may be 0.
+/// Three groups of five bits, each 1 to 27; only the third may be 0. What is too wide for a langcod
+/// has more than 27 before its last two groups.
 fn is_langcod(number: u32) -> bool {
-    let group = |shift: u32| number >> shift & 31;
-    (1..=27).contains(&group(10)) && (1..=27).contains(&group(5)) && group(0) <= 27
+    let (first, second, third) = (number >> 10, number >> 5 & 31, number & 31);
+    (1..=27).contains(&first) && (1..=27).contains(&second) && third <= 27
 }

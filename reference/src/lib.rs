@@ -1,5 +1,5 @@
 //! An independent reference implementation of the utility's rules: one ST 2109 audio metadata
-//! pack (read, check, list, scrub by a keep sheet) and the values of six PMD payload kinds.
+//! pack (read, check, list, scrub by a keep sheet) and the values of seven PMD payload kinds.
 //!
 //! Nothing here allocates except the text of a listing, and no function changes a lent buffer
 //! when it refuses.
@@ -77,7 +77,7 @@ pub enum Reason {
     Field = 17,
     /// Leftover bits not all zero.
     Pad = 18,
-    /// Kind not 1 to 6.
+    /// Kind not 1 to 7.
     Kind = 19,
 }
 

@@ -1,4 +1,4 @@
-//! Values of six PMD payload kinds, read into and written from lists of numbers.
+//! Values of seven PMD payload kinds, read into and written from lists of numbers.
 //!
 //! Both ways a first pass judges everything and finds the size, and a second one, which can't
 //! fail, stores. All four passes go through the same walk.
@@ -6,7 +6,7 @@
 use std::convert::Infallible;
 
 use crate::bits::{fetch, Pen};
-use crate::grammar::{grammar, Field, Grammar};
+use crate::grammar::{grammar, Field, Grammar, CARRIED, EXISTS, PARAMETERS};
 use crate::{Reason, Refusal};
 
 /// Bytes in a PMD value (house cap).
@@ -93,6 +93,9 @@ fn walk<P: Pass>(grammar: &Grammar, pass: &mut P) -> Result<(), P::Fault> {
     walk_fields(grammar.start, pass)?;
     loop {
         walk_fields(grammar.record, pass)?;
+        for fields in grammar.deliverables {
+            walk_deliverable(fields, pass)?;
+        }
         if !pass.more() {
             return Ok(());
         }
@@ -110,6 +113,28 @@ fn walk_fields<P: Pass>(fields: &[Field], pass: &mut P) -> Result<(), P::Fault> 
         }
     }
     Ok(())
+}
+
+/// A deliverable: nothing but a 0, or its fields and its presentations.
+#[inline(always)]
+fn walk_deliverable<P: Pass>(fields: &[Field], pass: &mut P) -> Result<(), P::Fault> {
+    if pass.number(EXISTS)? == 0 {
+        return Ok(());
+    }
+    walk_fields(fields, pass)?;
+    walk_pairs(pass)
+}
+
+/// Presentations, each with its parameter set. The pair that closes the list has one too.
+#[inline(always)]
+fn walk_pairs<P: Pass>(pass: &mut P) -> Result<(), P::Fault> {
+    loop {
+        let presentation = pass.number(CARRIED)?;
+        pass.number(PARAMETERS)?;
+        if presentation == 0 {
+            return Ok(());
+        }
+    }
 }
 
 /// Reading, first pass.

@@ -110,6 +110,11 @@ fn bench_values() {
     pmd_reads(6, "14 10 00", &[1, 65, 0]);
     pmd_read_refused(6, &hex("14 10 01"), Reason::Pad, 20);
     pmd_reads(1, "00 80 AE 00 00 00", &[1, 0, 5568, 0]);
+    pmd_reads(7, "07 00", &[7, 0, 0]);
+    pmd_reads(7, "01 98 14 24 00 06", &[1, 1, 3, 5, 9, 0, 3, 0]);
+    pmd_reads(7, "01 56 FF F0 00 07 F8", &[1, 0, 1, 5, 23, 511, 0, 0, 255]);
+    pmd_read_refused(7, &hex("01 B0 00 00"), Reason::Field, 9);
+    pmd_read_refused(7, &hex("01 47 00 00 00"), Reason::Field, 14);
 }
 
 #[test]
@@ -622,11 +627,11 @@ fn scrub_takes_the_last_free_tag() {
 
 #[test]
 fn pmd_kinds_and_caps() {
-    for kind in [0, 7, u32::MAX] {
+    for kind in [0, 8, u32::MAX] {
         pmd_read_refused(kind, &[0; 4097], Reason::Kind, 0);
         pmd_write_refused(kind, &[], Reason::Kind, 0);
     }
-    for kind in 1..=6 {
+    for kind in 1..=7 {
         pmd_read_refused(kind, &[0; 4097], Reason::Big, 0);
         pmd_read_refused(kind, &[], Reason::Bits, 0);
         pmd_write_refused(kind, &[], Reason::Bits, 0);
@@ -640,6 +645,22 @@ fn pmd_kinds_and_caps() {
     let refusal: Result<usize, Refusal> = Err(Reason::NoRoom.at(0));
     assert_eq!(pmd_write(6, &name(4095), &mut out), refusal);
     assert_eq!(pmd_write(6, &name(100), &mut out[..101]), refusal);
+}
+
+/// No value has more numbers than one of turnarounds without deliverables: three to 10 bits.
+#[test]
+fn pmd_most_numbers() {
+    let turnarounds = |count: usize| [7, 0, 0].repeat(count);
+    let (mut out, mut back) = (vec![0; 5000], vec![77; 9829]);
+    assert_eq!(pmd_write(7, &turnarounds(3276), &mut out), Ok(4095));
+    assert_eq!(pmd_read(7, &out[..4095], &mut back), Ok(9828));
+    assert_eq!(back, [turnarounds(3276), vec![77]].concat());
+    let refusal: Result<usize, Refusal> = Err(Reason::NoRoom.at(0));
+    assert_eq!(pmd_read(7, &out[..4095], &mut back[..9827]), refusal);
+    // The 4,096th byte begins a record that it can't end.
+    out[4095] = 7;
+    pmd_read_refused(7, &out[..4096], Reason::Bits, 32_768);
+    assert_eq!(pmd_write(7, &turnarounds(3277), &mut out), refusal);
 }
 
 #[test]
@@ -660,6 +681,66 @@ fn pmd_values_that_end_early() {
     pmd_write_refused(6, &[1, 65], Reason::Bits, 2);
     pmd_write_refused(6, &[1, 65, 0, 2], Reason::Bits, 4);
     pmd_write_refused(3, &[1, 0, 0, 1, 1, 1, 0, 0, 0, 0], Reason::Bits, 10);
+}
+
+#[test]
+fn pmd_turnarounds_that_end_early() {
+    pmd_read_refused(7, &hex("07"), Reason::Bits, 8);
+    pmd_read_refused(7, &hex("07 00 00"), Reason::Field, 10);
+    pmd_reads(7, "07 00 40", &[7, 0, 0, 1, 0, 0]);
+    // The pair that closes a list has its parameter set too.
+    pmd_read_refused(7, &hex("01 88 00"), Reason::Bits, 22);
+    pmd_write_refused(7, &[1, 1, 1, 0], Reason::Bits, 4);
+    pmd_read_refused(7, &hex("01 44 00 00"), Reason::Bits, 28);
+    pmd_write_refused(7, &[1, 0, 1, 1, 0, 0], Reason::Bits, 6);
+    // A list without such a pair, and a record without its second flag.
+    let open = [1, 1, 5, 511, 255, 1, 1];
+    pmd_write_refused(7, &open, Reason::Bits, 7);
+    pmd_write_refused(7, &[&open[..], &[0, 0]].concat(), Reason::Bits, 9);
+    pmd_write_refused(7, &[1, 0], Reason::Bits, 2);
+}
+
+/// Both deliverables, with some pairs in each.
+const TURNAROUND: [u32; 14] = [255, 1, 5, 511, 255, 0, 9, 1, 1, 23, 1, 0, 0, 255];
+
+#[test]
+fn pmd_fields_of_turnarounds() {
+    let limits = [256, 2, 6, 512, 256, 512, 256, 2, 6, 24, 512, 256, 512, 256];
+    assert_eq!(pmd_write(7, &TURNAROUND, &mut [0; 12]), Ok(12));
+    for (index, limit) in limits.into_iter().enumerate() {
+        let mut bad = TURNAROUND;
+        for number in (limit..limit + 20).chain([1 << 16, u32::MAX]) {
+            bad[index] = number;
+            pmd_write_refused(7, &bad, Reason::Field, index);
+        }
+    }
+    // An id and both rates may not be 0.
+    for index in [0, 2, 8] {
+        let mut bad = TURNAROUND;
+        bad[index] = 0;
+        pmd_write_refused(7, &bad, Reason::Field, index);
+    }
+    pmd_read_refused(7, &hex("00 00"), Reason::Field, 0);
+}
+
+/// Every code of both frame rates and of the program configuration, by its bits.
+#[test]
+fn pmd_codes_of_turnarounds() {
+    for rate in 0..16 {
+        let reserved = !(1..=5).contains(&rate);
+        code_is(reserved, &[1, 0x80 | rate << 3, 0, 0], 9);
+        code_is(reserved, &[1, 0x40 | rate << 2, 0, 0, 0], 10);
+    }
+    for config in 0..32 {
+        code_is(config > 23, &[1, 0x44 | config >> 3, config << 5, 0, 0], 14);
+    }
+}
+
+/// Expects a turnaround to be refused exactly if the code at `place` is reserved.
+#[track_caller]
+fn code_is(reserved: bool, value: &[u8], place: usize) {
+    let got = pmd_read(7, value, &mut [0; 7]);
+    assert_eq!(got.err(), reserved.then_some(Reason::Field.at(place)));
 }
 
 #[test]
@@ -765,7 +846,25 @@ fn pmd_round_trips() {
     for records in 1..20 {
         round_trip(3, &object.repeat(records));
         round_trip(4, &[vec![63], position.repeat(records)].concat());
+        let turnarounds: Vec<u32> = (0..records).flat_map(turnaround).collect();
+        round_trip(7, &turnarounds);
     }
+}
+
+/// One of four forms, by which deliverables it has, with more pairs the later it comes.
+fn turnaround(index: usize) -> Vec<u32> {
+    let pairs = (0..index / 4).flat_map(|pair| [511 - pair as u32, 3 * pair as u32]);
+    let pairs: Vec<u32> = pairs.chain([0, index as u32]).collect();
+    let exists = [index & 1, index >> 1 & 1].map(|flag| flag as u32);
+    let mut numbers = vec![1 + index as u32, exists[0]];
+    if exists[0] == 1 {
+        numbers.extend([&[5], &pairs[..]].concat());
+    }
+    numbers.push(exists[1]);
+    if exists[1] == 1 {
+        numbers.extend([&[1, 23], &pairs[..]].concat());
+    }
+    numbers
 }
 
 #[track_caller]
