@@ -8,7 +8,7 @@ use ballastwren_tests::packs::{any_pack, stretch, Said, KEY, PACK_MAX};
 use ballastwren_tests::random::Random;
 use ballastwren_tests::runs::{compare, inputs, require, seed};
 use ballastwren_tests::sheets::{any_sheet_bytes, bad_sheet, KEEP_ALL};
-use ballastwren_tests::values::{any_kind, any_list, any_value};
+use ballastwren_tests::values::{any_kind, any_list, any_value, many_turnarounds, ETD, NUMBERS_MAX};
 
 const INPUTS: usize = 200_000;
 
@@ -83,18 +83,16 @@ fn sheet_check_call(random: &mut Random) -> Call {
     Call::SheetCheck { sheet }
 }
 
-fn pmd_read_call(random: &mut Random) -> Call {
-    let kind = any_kind(random);
+fn pmd_read_call(random: &mut Random, kind: u32) -> Call {
     // Now and then a value of another kind than it is read as.
     let made_as = if random.percent(5) { any_kind(random) } else { kind };
     let value = any_value(random, made_as);
-    let needed = needed(random, &Call::PmdRead { kind, value: value.clone(), numbers: vec![0; 5461] });
+    let needed = needed(random, &Call::PmdRead { kind, value: value.clone(), numbers: vec![0; NUMBERS_MAX] });
     let room = room(random, needed);
     Call::PmdRead { kind, value, numbers: random.numbers(room) }
 }
 
-fn pmd_write_call(random: &mut Random) -> Call {
-    let kind = any_kind(random);
+fn pmd_write_call(random: &mut Random, kind: u32) -> Call {
     let made_as = if random.percent(5) { any_kind(random) } else { kind };
     let numbers = any_list(random, made_as);
     let needed = needed(random, &Call::PmdWrite { kind, numbers: numbers.clone(), out: vec![0; 4200] });
@@ -132,14 +130,30 @@ fn bw_sheet_check_agrees() {
 
 #[test]
 fn bw_pmd_read_agrees() {
-    let tally = compare(seed() + 3, inputs(INPUTS), |random, _| pmd_read_call(random));
+    let of_any = |random: &mut Random, _| {
+        let kind = any_kind(random);
+        pmd_read_call(random, kind)
+    };
+    let tally = compare(seed() + 3, inputs(INPUTS), of_any);
     require("bw_pmd_read", &tally, &[1, 15, 16, 17, 18, 19]);
 }
 
 #[test]
 fn bw_pmd_write_agrees() {
-    let tally = compare(seed() + 4, inputs(INPUTS), |random, _| pmd_write_call(random));
+    let of_any = |random: &mut Random, _| {
+        let kind = any_kind(random);
+        pmd_write_call(random, kind)
+    };
+    let tally = compare(seed() + 4, inputs(INPUTS), of_any);
     require("bw_pmd_write", &tally, &[15, 16, 17, 19]);
+}
+
+#[test]
+fn turnarounds_agree() {
+    let read = compare(seed() + 7, inputs(INPUTS), |random, _| pmd_read_call(random, ETD));
+    require("bw_pmd_read", &read, &[1, 15, 16, 17, 18]);
+    let written = compare(seed() + 8, inputs(INPUTS), |random, _| pmd_write_call(random, ETD));
+    require("bw_pmd_write", &written, &[15, 16, 17]);
 }
 
 #[test]
@@ -166,7 +180,70 @@ fn small_values_agree() {
         let value = (index as u32).to_be_bytes()[2..].to_vec();
         Call::PmdRead { kind: 1 + (index >> 16) as u32, value, numbers: vec![77; 4] }
     };
-    compare(0, 6 << 16, small);
+    compare(0, 7 << 16, small);
+}
+
+fn read_turnarounds(value: &[u8], numbers: Vec<u32>) -> Call {
+    Call::PmdRead { kind: ETD, value: value.to_vec(), numbers }
+}
+
+fn write_turnarounds(numbers: &[u32], out: Vec<u8>) -> Call {
+    Call::PmdWrite { kind: ETD, numbers: numbers.to_vec(), out }
+}
+
+/// Turnarounds that fill a value, cut off at every byte, and their list, cut off at every number: a list is good
+/// exactly where a record ends.
+#[test]
+fn cut_turnarounds_agree() {
+    let (records, numbers, value) = many_turnarounds(&mut Random::new(seed()));
+    let read = compare(seed(), value.len() + 1, |random, size| {
+        let room = numbers.len() + random.below(2);
+        read_turnarounds(&value[..size], random.numbers(room))
+    });
+    assert_eq!(read.of(0) + read.of(16) + read.of(18), value.len() + 1);
+    assert!(read.of(0) > 0 && read.of(18) > 0, "no cut stands where a record ends, or in the byte after it");
+    let written = compare(seed(), numbers.len() + 1, |random, count| {
+        let room = value.len() + random.below(2);
+        write_turnarounds(&numbers[..count], random.bytes(room))
+    });
+    assert_eq!((written.of(0), written.of(16)), (records, numbers.len() + 1 - records));
+}
+
+/// So many turnarounds without deliverables.
+fn bare_turnarounds(count: u32) -> Vec<u32> {
+    (0..count).flat_map(|id| [1 + id % 255, 0, 0]).collect()
+}
+
+/// No value has more numbers than 3,276 turnarounds without deliverables. A byte more begins a record that it can't
+/// end, a record more has no room in any buffer, and a value that another record fills to 4,096 bytes has fewer.
+#[test]
+fn most_numbers_agree() {
+    let (most, more) = (bare_turnarounds(3276), bare_turnarounds(3277));
+    let full = [&[9, 1, 5, 0, 255, 0], &bare_turnarounds(3273)[..]].concat();
+    let write = |numbers: &[u32], room: usize| write_turnarounds(numbers, vec![77; room]);
+    let read = |value: &[u8], room: usize| read_turnarounds(value, vec![77; room]);
+    let mut archive = Archive::start();
+    let value = archive.outcome(&write(&most, 4095)).buffer;
+    let full_value = archive.outcome(&write(&full, 4096)).buffer;
+    let mut calls = vec![
+        (write(&most, 4095), 0, 4095),
+        (write(&most, 4096), 0, 4095),
+        (write(&most, 4094), 15, 0),
+        (write(&more, 5000), 15, 0),
+        (write(&full, 4096), 0, 4096),
+        (read(&value, NUMBERS_MAX), 0, NUMBERS_MAX),
+        (read(&value, NUMBERS_MAX + 1), 0, NUMBERS_MAX),
+        (read(&value, NUMBERS_MAX - 1), 15, 0),
+        (read(&full_value, NUMBERS_MAX), 0, full.len()),
+    ];
+    calls.extend((0..=255).map(|byte| {
+        let (number, place) = if byte == 0 { (17, 32_760) } else { (16, 32_768) };
+        (read(&[&value[..], &[byte]].concat(), NUMBERS_MAX + 3), number, place)
+    }));
+    compare(0, calls.len(), |_, index| calls[index].0.clone());
+    for (call, number, value) in &calls {
+        assert_eq!(archive.outcome(call).answer, Answer { number: *number, value: *value as u64 });
+    }
 }
 
 /// A scrub of a pack of one payload, number 5, by these bytes of a sheet.

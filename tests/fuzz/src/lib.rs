@@ -65,7 +65,7 @@ fn kinds(choice: u8) -> std::ops::RangeInclusive<u32> {
     if choice & 0x80 == 0 {
         kind..=kind
     } else {
-        0..=7
+        0..=8
     }
 }
 

@@ -25,7 +25,7 @@ fn main() {
 
 /// An input of each form in turn, as `calls` of the target takes it apart.
 fn seed(random: &mut Random, index: usize) -> Vec<u8> {
-    let kind = random.between(1, 6) as u32;
+    let kind = random.between(1, 7) as u32;
     let (said, mut pack) = any_pack(random);
     match index % 6 {
         0 => [&[0, 64], &pack.bytes()[..]].concat(),
