@@ -118,6 +118,12 @@ fn value(name: &'static str, kind: u32, numbers: Vec<u32>) -> Value {
     Value { name, kind, numbers, bytes }
 }
 
+/// A turnaround of both deliverables, with five pairs in each and the one that closes them.
+fn turnaround(id: u32) -> Vec<u32> {
+    let pairs: Vec<u32> = (1..=5).flat_map(|i| [i * 90 + id, i * 40 + id]).chain([0, id]).collect();
+    [&[id, 1, 1 + id % 5], &pairs[..], &[1, 1 + id % 5, id % 24], &pairs].concat()
+}
+
 pub fn values() -> Vec<Value> {
     let objects = (1..=64).flat_map(|e| [e, e % 7, e % 2, 512, e * 9, 1023, e % 32, 0, 1, e * 3 % 256, e % 64]).collect();
     let positions = std::iter::once(5).chain((1..=90).flat_map(|e| [e, 1 + e * 11 % 1023, 512, 1023])).collect();
@@ -127,5 +133,6 @@ pub fn values() -> Vec<Value> {
         value("90 positions", 4, positions),
         value("a name of 3,000 bytes", 5, name),
         value("one presentation", 1, vec![1, 0, 5568, 3, 4, 0]),
+        value("40 turnarounds of ten pairs", 7, (1..=40).flat_map(turnaround).collect()),
     ]
 }
