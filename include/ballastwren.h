@@ -58,9 +58,9 @@ extern "C" {
 
 /* The version of this header and of the library beside it; docs/VERSIONS.md says what its numbers tell. */
 #define BW_VERSION_MAJOR 0
-#define BW_VERSION_MINOR 3
+#define BW_VERSION_MINOR 4
 #define BW_VERSION_PATCH 0
-#define BW_VERSION "0.3.0"
+#define BW_VERSION "0.4.0"
 #define BW_VERSION_NUMBER (BW_VERSION_MAJOR * 10000 + BW_VERSION_MINOR * 100 + BW_VERSION_PATCH)
 
 /*
@@ -81,7 +81,7 @@ uint32_t bw_version(void);
 #define BW_LABEL_SIZE 16                          /* bytes of a label, and of the pack key */
 #define BW_ROW 8                                  /* numbers in a row of bw_read */
 #define BW_ROWS_MAX (BW_ROW * (BW_ITEMS_MAX + 1)) /* one row is the pack's */
-#define BW_PMD_NUMBERS_MAX 5461                   /* no value has more than one number to 6 bits */
+#define BW_PMD_NUMBERS_MAX 9828                   /* 3,276 records of three numbers: no value has more */
 #define BW_SHEET_MAX (8 + 16 * BW_SHEET_LABELS_MAX + 4 * BW_SHEET_NUMBERS_MAX) /* bytes of the longest keep sheet */
 
 /*
@@ -242,20 +242,26 @@ enum bw_kind {
     BW_AOD = 3, /* element 12, class 4, dynamic 1, x 10, y 10, z 10, size 5, size_3d 1, diverge 1, source 8, gain 6 */
     BW_XYZ = 4, /* once, before the first record: sample_time 6; a record: element 12, x 10, y 10, z 10 */
     BW_AEN = 5, /* element 12, then bytes of a name until one is 0 */
-    BW_ESN = 6  /* substream 4, then bytes of a name until one is 0 */
+    BW_ESN = 6, /* substream 4, then bytes of a name until one is 0 */
+    BW_ETD = 7  /* turnaround 8; ed2_exists 1, and if it is 1: frame_rate 4, then pairs of presentation 9 and parameters
+                   8 until a pair's presentation is 0; dolbye_exists 1, and if it is 1: frame_rate 4, pgmconfig 5, then
+                   pairs in the same way */
 };
 
 /*
- * Reads a PMD value: its fields in order, one number each, closing zeros and the bytes of names included.
+ * Reads a PMD value: its fields in order, one number each, closing zeros and the bytes of names included. Of a closing
+ * pair both numbers stand there: 0, and its parameters. A flag stands there always; what it leaves out when it is 0 has
+ * no numbers.
  *
- * Refused as FIELD: a presentation, element or substream 0 (but the one that closes a list); x, y or z 0;
+ * Refused as FIELD: a presentation, element, substream or turnaround 0 (but the one that closes a list); x, y or z 0;
  * speaker_config 7 to 28; class 7 to 15; a langcod whose first two groups of 5 bits are not 1 to 27, or whose third
- * is above 27.
+ * is above 27; frame_rate 0 and 6 to 15; pgmconfig 24 to 31. Parameters are any of 0 to 255.
  *
  * Success counts the numbers written, BW_PMD_NUMBERS_MAX at most. Numbers after them have not changed.
  *
  * Refusals, in this order: KIND; BIG; then field by field BITS if it is not wholly there, FIELD (another record
- * begins wherever 8 bits or more are left); PAD; NOROOM if `numbers` is too short.
+ * begins wherever 8 bits or more are left); PAD; NOROOM if `numbers` is too short. The two fields of a pair are judged
+ * one after the other, so a value that ends after a closing presentation is BITS at the parameters that are missing.
  */
 bw_answer bw_pmd_read(uint32_t kind, const uint8_t *value, size_t value_len, uint32_t *numbers, size_t numbers_len);
 
@@ -265,8 +271,8 @@ bw_answer bw_pmd_read(uint32_t kind, const uint8_t *value, size_t value_len, uin
  * Success counts the bytes written, BW_PMD_VALUE_MAX at most. Bytes of `out` after them have not changed.
  *
  * Refusals, in this order: KIND; then number by number BITS if the list ends early, FIELD as for bw_pmd_read or if the
- * number is too wide (another record begins wherever a number is left); NOROOM if the value is longer than `out` or
- * than BW_PMD_VALUE_MAX.
+ * number is too wide, a flag above 1 included (another record begins wherever a number is left); NOROOM if the value is
+ * longer than `out` or than BW_PMD_VALUE_MAX. A list that ends after a closing presentation ends early.
  */
 bw_answer bw_pmd_write(uint32_t kind, const uint32_t *numbers, size_t numbers_len, uint8_t *out, size_t out_len);
 
