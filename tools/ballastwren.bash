@@ -7,7 +7,7 @@ _ballastwren_next() {
     :*) echo 'check list scrub sheet pmd --help --version' ;;
     sheet:*) echo 'make show --help' ;;
     pmd:*) echo 'read write find --help' ;;
-    'pmd read:0' | 'pmd write:0') echo 'APD APN AOD XYZ AEN ESN' ;;
+    'pmd read:0' | 'pmd write:0') echo 'APD APN AOD XYZ AEN ESN ETD' ;;
     check:* | list:0 | scrub:[01] | 'sheet make':[01] | 'sheet show:0' | 'pmd read:1' | 'pmd write':[12] | 'pmd find:0')
         echo files ;;
     esac

@@ -66,7 +66,8 @@ const char help_sheet_show[] =
 const char help_pmd_read[] =
     "ballastwren pmd read [--numbers | --json] KIND VALUE\n"
     "\n"
-    "Shows the fields of a PMD value, one record to a line. KIND is APD, APN, AOD, XYZ, AEN or ESN, or 1 to 6.\n"
+    "Shows the fields of a PMD value, one record to a line. KIND is APD, APN, AOD, XYZ, AEN, ESN or\n"
+    "ETD, or 1 to 7.\n"
     "  --numbers   the bare list of fields, closing zeros and bytes of names included\n"
     "  --json      one JSON object\n";
 
@@ -80,9 +81,15 @@ const char help_pmd_write[] =
     "  XYZ  sample_time 1, and on the next lines element 2 x 1 y 512 z 1023\n"
     "  AEN  element 2 name \"Commentary\"\n"
     "  ESN  substream 1 name \"A\"\n"
+    "  ETD  turnaround 1 ed2 no dolby_e yes rate 25 program 5.1+2 pairs 5:9 0:3\n"
     "Speakers: 2.0 3.0 5.1 5.1.2 5.1.4 7.1.4 9.1.6 portable-speakers portable-headphone not-indicated.\n"
     "Classes: dialog vds voiceover generic spoken-subtitle emergency-alert emergency-information.\n"
     "A gain is 'muted' or -25.0 to +6.0 dB in halves. In a name \\\", \\\\ and \\xNN stand for bytes.\n"
+    "After 'ed2 yes' stand rate and pairs, after 'dolby_e yes' rate, program and pairs; after 'no' none of them.\n"
+    "Rates: 23.98 24 25 29.97 30.\n"
+    "Programs: 5.1+2 5.1+1+1 4+4 4+2+2 4+2+1+1 4+1+1+1 2+2+2+2 2+2+2+1+1 2+2+1+1+1 2+1+1+1+1+1 1+1+1+1+1+1+1 5.1\n"
+    "  4+2 4+1+1 2+2+2 2+2+1+1 2+1+1+1 1+1+1+1+1 4 2+2 2+1+1 1+1+1+1 7.1 7.1-screen.\n"
+    "A pair is presentation:parameters. 0:N closes the pairs, and its N is part of the value.\n"
     "  --numbers   FIELDS is the bare list of numbers instead\n";
 
 const char help_pmd_find[] =

@@ -20,7 +20,7 @@ static const struct pmd_label labels[] = {
     {"Dynamic Position Update", BW_XYZ},
     {"Identity And Timing", 0},
     {"Presentation Loudness Description", 0},
-    {"ED2 Turnaround Description", 0},
+    {"ED2 Turnaround Description", BW_ETD},
     {"Headphone Element Description", 0}
 };
 

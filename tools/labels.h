@@ -14,7 +14,7 @@ struct pmd_label {
 /* The entry of a label of 16 bytes, NULL if it is not one of PMD. */
 const struct pmd_label *pmd_label(const uint8_t *label);
 
-/* The title of the payloads of a kind from 1 to 6. */
+/* The title of the payloads of a kind from 1 to 7. */
 const char *kind_title(uint32_t kind);
 
 #endif

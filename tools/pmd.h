@@ -17,22 +17,31 @@ enum form {
     LANGUAGE,
     OBJECT_CLASS,
     GAIN,
+    FRAME_RATE,
+    PROGRAM_CONFIG,
     ELEMENTS, /* element ids until one is 0 */
-    NAME      /* bytes until one is 0 */
+    NAME,     /* bytes until one is 0 */
+    PAIRS,    /* pairs of presentation and parameters until a presentation is 0; the closing pair has parameters too */
+    GROUP     /* a flag, and other fields after it if it is 1 */
+};
+
+struct fields {
+    const struct field *list;
+    size_t count;
 };
 
 struct field {
     const char *word; /* its name in words */
     const char *key;  /* its name in JSON where the number stands */
     enum form form;
+    const struct fields *group; /* what stands after the flag of a GROUP; NULL for any other form */
 };
 
 struct kind {
     uint32_t number;
     const char *name;
     const struct field *once; /* the field before the first record, NULL if there is none */
-    const struct field *fields;
-    size_t count;
+    struct fields record;
 };
 
 /* The kind of this number, NULL if there is none. */

@@ -5,53 +5,73 @@
 #include "pmd.h"
 #include "refusals.h"
 
+#define FIELDS(list) {(list), sizeof(list) / sizeof(list)[0]}
+
 static const struct field apd[] = {
-    {"presentation", "presentation", NUMBER},
-    {"speakers", "speaker_config", SPEAKER_LAYOUT},
-    {"language", "langcod", LANGUAGE},
-    {"elements", "elements", ELEMENTS}
+    {"presentation", "presentation", NUMBER, NULL},
+    {"speakers", "speaker_config", SPEAKER_LAYOUT, NULL},
+    {"language", "langcod", LANGUAGE, NULL},
+    {"elements", "elements", ELEMENTS, NULL}
 };
 
 static const struct field apn[] = {
-    {"presentation", "presentation", NUMBER},
-    {"language", "langcod", LANGUAGE},
-    {"name", "name_hex", NAME}
+    {"presentation", "presentation", NUMBER, NULL},
+    {"language", "langcod", LANGUAGE, NULL},
+    {"name", "name_hex", NAME, NULL}
 };
 
 static const struct field aod[] = {
-    {"element", "element", NUMBER},
-    {"class", "class", OBJECT_CLASS},
-    {"dynamic", "dynamic", YES_NO},
-    {"x", "x", NUMBER},
-    {"y", "y", NUMBER},
-    {"z", "z", NUMBER},
-    {"size", "size", NUMBER},
-    {"size_3d", "size_3d", YES_NO},
-    {"diverge", "diverge", YES_NO},
-    {"source", "source", NUMBER},
-    {"gain", "gain", GAIN}
+    {"element", "element", NUMBER, NULL},
+    {"class", "class", OBJECT_CLASS, NULL},
+    {"dynamic", "dynamic", YES_NO, NULL},
+    {"x", "x", NUMBER, NULL},
+    {"y", "y", NUMBER, NULL},
+    {"z", "z", NUMBER, NULL},
+    {"size", "size", NUMBER, NULL},
+    {"size_3d", "size_3d", YES_NO, NULL},
+    {"diverge", "diverge", YES_NO, NULL},
+    {"source", "source", NUMBER, NULL},
+    {"gain", "gain", GAIN, NULL}
 };
 
-static const struct field sample_time = {"sample_time", "sample_time", NUMBER};
+static const struct field sample_time = {"sample_time", "sample_time", NUMBER, NULL};
 
 static const struct field xyz[] = {
-    {"element", "element", NUMBER},
-    {"x", "x", NUMBER},
-    {"y", "y", NUMBER},
-    {"z", "z", NUMBER}
+    {"element", "element", NUMBER, NULL},
+    {"x", "x", NUMBER, NULL},
+    {"y", "y", NUMBER, NULL},
+    {"z", "z", NUMBER, NULL}
 };
 
 static const struct field aen[] = {
-    {"element", "element", NUMBER},
-    {"name", "name_hex", NAME}
+    {"element", "element", NUMBER, NULL},
+    {"name", "name_hex", NAME, NULL}
 };
 
 static const struct field esn[] = {
-    {"substream", "substream", NUMBER},
-    {"name", "name_hex", NAME}
+    {"substream", "substream", NUMBER, NULL},
+    {"name", "name_hex", NAME, NULL}
 };
 
-#define FIELDS(list) (list), sizeof(list) / sizeof(list)[0]
+static const struct field ed2_fields[] = {
+    {"rate", "frame_rate", FRAME_RATE, NULL},
+    {"pairs", "pairs", PAIRS, NULL}
+};
+
+static const struct field dolby_e_fields[] = {
+    {"rate", "frame_rate", FRAME_RATE, NULL},
+    {"program", "pgmconfig", PROGRAM_CONFIG, NULL},
+    {"pairs", "pairs", PAIRS, NULL}
+};
+
+static const struct fields ed2 = FIELDS(ed2_fields);
+static const struct fields dolby_e = FIELDS(dolby_e_fields);
+
+static const struct field etd[] = {
+    {"turnaround", "turnaround", NUMBER, NULL},
+    {"ed2", "ed2", GROUP, &ed2},
+    {"dolby_e", "dolby_e", GROUP, &dolby_e}
+};
 
 static const struct kind kinds[] = {
     {BW_APD, "APD", NULL, FIELDS(apd)},
@@ -59,7 +79,8 @@ static const struct kind kinds[] = {
     {BW_AOD, "AOD", NULL, FIELDS(aod)},
     {BW_XYZ, "XYZ", &sample_time, FIELDS(xyz)},
     {BW_AEN, "AEN", NULL, FIELDS(aen)},
-    {BW_ESN, "ESN", NULL, FIELDS(esn)}
+    {BW_ESN, "ESN", NULL, FIELDS(esn)},
+    {BW_ETD, "ETD", NULL, FIELDS(etd)}
 };
 
 enum { KINDS = sizeof kinds / sizeof kinds[0] };
@@ -83,6 +104,6 @@ bool read_kind(const char *text, uint32_t *number)
             *number = kinds[i].number;
             return true;
         }
-    trouble(text, "is not a kind: APD, APN, AOD, XYZ, AEN, ESN, or a number");
+    trouble(text, "is not a kind: APD, APN, AOD, XYZ, AEN, ESN, ETD, or a number");
     return false;
 }

@@ -1,4 +1,6 @@
 /* A PMD value from its words: what `pmd read` prints, or bare numbers. */
+#include <string.h>
+
 #include "exits.h"
 #include "hex.h"
 #include "lines.h"
@@ -85,6 +87,32 @@ static bool take_elements(struct parse *parse)
     return true;
 }
 
+/* `5:9`: a presentation and its parameters. */
+static bool read_pair(struct word word, uint32_t *presentation, uint32_t *parameters)
+{
+    const char *colon = memchr(word.start, ':', word.length);
+    const size_t before = colon != NULL ? (size_t)(colon - word.start) : 0;
+
+    return colon != NULL && word_number((struct word){word.start, before}, presentation) &&
+           word_number((struct word){colon + 1, word.length - before - 1}, parameters);
+}
+
+/* Pairs up to the one of presentation 0, which closes the list and has parameters too. */
+static bool take_pairs(struct parse *parse)
+{
+    uint32_t presentation, parameters;
+
+    do {
+        const struct word word = next_word(&parse->lines);
+
+        if (!read_pair(word, &presentation, &parameters))
+            return wrong(parse, word, "a pair such as 5:9, or 0:N, which closes the list,");
+        push(parse, presentation);
+        push(parse, parameters);
+    } while (presentation != 0);
+    return true;
+}
+
 /* The bytes of an escape after its backslash, 0 if it is none. */
 static size_t escape(const char *at, const char *stop, uint32_t *byte)
 {
@@ -130,6 +158,16 @@ static bool take_name(struct parse *parse)
     return true;
 }
 
+static bool take_fields(struct parse *parse, const struct fields *fields);
+
+/* yes or no, and after yes what the flag opens. */
+static bool take_group(struct parse *parse, const struct fields *group)
+{
+    if (!take(parse, read_yes_no, "yes or no"))
+        return false;
+    return parse->to->list[parse->to->count - 1] == 0 || take_fields(parse, group);
+}
+
 static bool take_field(struct parse *parse, const struct field *field)
 {
     if (!take_exactly(parse, field->word))
@@ -145,22 +183,37 @@ static bool take_field(struct parse *parse, const struct field *field)
         return take(parse, read_class, "an object class, such as dialog or generic,");
     case GAIN:
         return take_gain(parse);
+    case FRAME_RATE:
+        return take(parse, read_frame_rate, "a frame rate, 23.98, 24, 25, 29.97 or 30,");
+    case PROGRAM_CONFIG:
+        return take(parse, read_program, "a program configuration, such as 5.1+2 or 7.1-screen,");
     case ELEMENTS:
         return take_elements(parse);
     case NAME:
         return take_name(parse);
+    case PAIRS:
+        return take_pairs(parse);
+    case GROUP:
+        return take_group(parse, field->group);
     case NUMBER:
         break;
     }
     return take(parse, word_number, "a number");
 }
 
-/* A line of fields, and nothing after them. */
-static bool take_line(struct parse *parse, const struct field *fields, size_t count)
+static bool take_fields(struct parse *parse, const struct fields *fields)
 {
-    for (size_t i = 0; i < count; i++)
-        if (!take_field(parse, &fields[i]))
+    for (size_t i = 0; i < fields->count; i++)
+        if (!take_field(parse, &fields->list[i]))
             return false;
+    return true;
+}
+
+/* A line of fields, and nothing after them. */
+static bool take_line(struct parse *parse, const struct fields *fields)
+{
+    if (!take_fields(parse, fields))
+        return false;
     return word_ahead(&parse->lines).length == 0 || wrong(parse, next_word(&parse->lines), "the end of the line");
 }
 
@@ -182,8 +235,8 @@ int parse_numbers(const char *name, const struct kind *kind, const uint8_t *text
     numbers->count = 0;
     while (next_line(&parse.lines)) {
         const bool good = kind == NULL ? take_bare_line(&parse)
-                          : once       ? take_line(&parse, kind->once, 1)
-                                       : take_line(&parse, kind->fields, kind->count);
+                          : once       ? take_line(&parse, &(struct fields){kind->once, 1})
+                                       : take_line(&parse, &kind->record);
 
         if (!good)
             return REFUSED;

@@ -21,9 +21,25 @@ static const struct entry classes[] = {
     {4, "spoken-subtitle"}, {5, "emergency-alert"}, {6, "emergency-information"}
 };
 
+static const struct entry frame_rates[] = {
+    {1, "23.98"}, {2, "24"}, {3, "25"}, {4, "29.97"}, {5, "30"}
+};
+
+/* As the table prints them, though 5, 8, 9, 10, 16 and 17 have a channel less there than the rows around them. */
+static const struct entry programs[] = {
+    {0, "5.1+2"},     {1, "5.1+1+1"},     {2, "4+4"},            {3, "4+2+2"},
+    {4, "4+2+1+1"},   {5, "4+1+1+1"},     {6, "2+2+2+2"},        {7, "2+2+2+1+1"},
+    {8, "2+2+1+1+1"}, {9, "2+1+1+1+1+1"}, {10, "1+1+1+1+1+1+1"}, {11, "5.1"},
+    {12, "4+2"},      {13, "4+1+1"},      {14, "2+2+2"},         {15, "2+2+1+1"},
+    {16, "2+1+1+1"},  {17, "1+1+1+1+1"},  {18, "4"},             {19, "2+2"},
+    {20, "2+1+1"},    {21, "1+1+1+1"},    {22, "7.1"},           {23, "7.1-screen"}
+};
+
 enum {
     SPEAKERS = sizeof speakers / sizeof speakers[0],
     CLASSES = sizeof classes / sizeof classes[0],
+    FRAME_RATES = sizeof frame_rates / sizeof frame_rates[0],
+    PROGRAMS = sizeof programs / sizeof programs[0],
     GAINS = 64,   /* values of a gain field */
     LETTERS = 26,
     LAST_CODE = 27
@@ -65,6 +81,26 @@ bool read_speakers(struct word word, uint32_t *number)
 bool read_class(struct word word, uint32_t *number)
 {
     return number_of(classes, CLASSES, word, number);
+}
+
+const char *frame_rate_word(uint32_t number)
+{
+    return word_of(frame_rates, FRAME_RATES, number);
+}
+
+const char *program_word(uint32_t number)
+{
+    return word_of(programs, PROGRAMS, number);
+}
+
+bool read_frame_rate(struct word word, uint32_t *number)
+{
+    return number_of(frame_rates, FRAME_RATES, word, number);
+}
+
+bool read_program(struct word word, uint32_t *number)
+{
+    return number_of(programs, PROGRAMS, word, number);
 }
 
 void print_language(FILE *to, uint32_t langcod)

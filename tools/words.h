@@ -14,6 +14,12 @@ const char *class_word(uint32_t number);
 bool read_speakers(struct word word, uint32_t *number);
 bool read_class(struct word word, uint32_t *number);
 
+/* Frames per second by Table 16; a program configuration of Dolby E by Table 17, without blanks. NULL if reserved. */
+const char *frame_rate_word(uint32_t number);
+const char *program_word(uint32_t number);
+bool read_frame_rate(struct word word, uint32_t *number);
+bool read_program(struct word word, uint32_t *number);
+
 /* The two or three letters of a langcod by Table 1. Code 27, which the table counts but which is no letter, is "(27)". */
 void print_language(FILE *to, uint32_t langcod);
 bool read_language(struct word word, uint32_t *langcod);
