@@ -47,6 +47,12 @@ name() {
     printf '8:0'
 }
 
+# pairs PRESENTATION:PARAMETERS...: the pairs of a turnaround, the closing one included, as fields.
+pairs() {
+    local pair
+    for pair in "$@"; do printf '9:%d 8:%d ' "${pair%:*}" "${pair#*:}"; done
+}
+
 # langcod LETTERS: two or three small letters, as a field.
 langcod() {
     local i sum=0 letter code
@@ -101,7 +107,7 @@ KEY=060E2B34027F01010C04010000000000
 pmd_label() { printf '060E2B340401010D040402%s00000000' "$1"; }
 VERSION=$(pmd_label 04) BEDS=$(pmd_label 05) OBJECTS=$(pmd_label 06) PRESENTATIONS=$(pmd_label 07)
 PRESENTATION_NAMES=$(pmd_label 08) ELEMENT_NAMES=$(pmd_label 09) SUBSTREAM_NAMES=$(pmd_label 0B)
-POSITIONS=$(pmd_label 0D)
+POSITIONS=$(pmd_label 0D) TURNAROUNDS=$(pmd_label 10)
 
 # crc HEX: bit by bit, by EN 300 468 Annex B.
 crc() {
@@ -154,6 +160,8 @@ text() {
     XYZ=$(bits 6:1 12:3 10:1 10:512 10:1023 12:2 10:512 10:512 10:512)
     AEN=$(bits 12:2 $(name 'Commentary') 12:3 $(name 'Crowd'))
     ESN=$(bits 4:1 $(name 'A'))
+    ETD=$(bits 8:1 1:1 4:3 $(pairs 1:1 2:9 0:0) 1:1 4:3 5:0 $(pairs 1:0 2:9 0:3) \
+        8:2 1:0 1:1 4:4 5:23 $(pairs 511:0 0:255) 8:255 1:0 1:0)
     ODD=$(bits 9:3 $(langcod de) $(name $'quote " slash \\ tab \t bell \a bare \xff escape \e[31m'))
 }
 
@@ -174,12 +182,19 @@ make_values() {
     text values/aen.txt 'element 2 name "Commentary"' 'element 3 name "Crowd"'
     save values/esn.value "$ESN"
     text values/esn.txt 'substream 1 name "A"'
+    save values/etd.value "$ETD"
+    text values/etd.txt \
+        'turnaround 1 ed2 yes rate 25 pairs 1:1 2:9 0:0 dolby_e yes rate 25 program 5.1+2 pairs 1:0 2:9 0:3' \
+        'turnaround 2 ed2 no dolby_e yes rate 29.97 program 7.1-screen pairs 511:0 0:255' \
+        'turnaround 255 ed2 no dolby_e no'
     save values/apn-odd.value "$ODD"
     text values/apn-odd.txt \
         'presentation 3 language de name "quote \" slash \\ tab \x09 bell \x07 bare \xFF escape \x1B[31m"'
     save values/refused-bits.value "${ESN%00}"
     save values/refused-field.value "$(bits 9:1 5:7 15:5568 12:0)"
     save values/refused-pad.value 141001
+    # shellcheck disable=SC2046
+    save values/refused-rate.value "$(bits 8:1 1:1 4:6 $(pairs 5:9 0:3) 1:0)"
 }
 
 # keep_sheet NAME LABELS NUMBERS LINES...: a sheet and its text.
@@ -229,9 +244,9 @@ same_kept_b() {
 # A payload of each kind that is decoded, and two of PMD that are not.
 each_kind() {
     bare "$(config 0 64 "$VERSION" 65 "$BEDS" 66 "$OBJECTS" 67 "$PRESENTATIONS" 68 "$PRESENTATION_NAMES" \
-        69 "$ELEMENT_NAMES" 70 "$SUBSTREAM_NAMES" 71 "$POSITIONS")$(payload 64 0100)$(payload 65 00)$(
+        69 "$ELEMENT_NAMES" 70 "$SUBSTREAM_NAMES" 71 "$POSITIONS" 72 "$TURNAROUNDS")$(payload 64 0100)$(payload 65 00)$(
         payload 67 "$APD")$(payload 68 "$APN")$(payload 69 "$AEN")$(payload 70 "$ESN")$(
-        sync 0 0 "$(payload 66 "$AOD")$(payload 71 "$XYZ")")"
+        payload 72 "$ETD")$(sync 0 0 "$(payload 66 "$AOD")$(payload 71 "$XYZ")")"
 }
 
 # payloads COUNT: so many payloads with tags from 100 on.

@@ -25,6 +25,7 @@ check 'completion: subcommands' completes 'check list scrub sheet pmd --help --v
 check 'completion: a subcommand begun' completes 'scrub sheet' ballastwren s
 check 'completion: the second word' completes 'make show --help' ballastwren sheet ''
 check 'completion: kinds' completes 'APD APN AOD AEN' ballastwren pmd read A
+check 'completion: a kind of ED2' completes 'ESN ETD' ballastwren pmd write E
 check 'completion: options' completes '--sheet --report --help' ballastwren scrub --
 check 'completion: files' completes 'samples/packs/full.pack' ballastwren check samples/packs/fu
 check 'completion: the file of an option' completes 'samples/sheets/rack.sheet' ballastwren scrub --sheet samples/sheets/rack.s

@@ -22,12 +22,20 @@ numbers() {
 check 'pmd read: bench, kind 4' numbers 4 0400401803FF '1 1 1 512 1023'
 check 'pmd read: bench, kind 6' numbers 6 141000 '1 65 0'
 check 'pmd read: bench, kind 1' numbers 1 0080AE000000 '1 0 5568 0'
+check 'pmd read: a turnaround for nothing' numbers 7 0700 '7 0 0'
+check 'pmd read: a turnaround for ED2' numbers 7 019814240006 '1 1 3 5 9 0 3 0'
+check 'pmd read: a turnaround for Dolby E' numbers 7 0156FFF00007F8 '1 0 1 5 23 511 0 0 255'
 check 'pmd read: BITS' gives 1 '' '*BITS (16) at bit 12: *' "$BW" pmd read ESN "$V/refused-bits.value"
 check 'pmd read: FIELD' gives 1 '' '*FIELD (17) at bit 9: *' "$BW" pmd read APD "$V/refused-field.value"
 check 'pmd read: PAD' gives 1 '' '*PAD (18) at bit 20: *' "$BW" pmd read ESN "$V/refused-pad.value"
+check 'pmd read: FIELD, a frame rate' gives 1 '' '*FIELD (17) at bit 9: *' "$BW" pmd read ETD "$V/refused-rate.value"
+bytes 0147000000 >"$T/program" && bytes 070000 >"$T/zero" && bytes 018800 >"$T/closing"
+check 'pmd read: FIELD, a program' gives 1 '' '*FIELD (17) at bit 14: *' "$BW" pmd read ETD "$T/program"
+check 'pmd read: FIELD, a turnaround 0' gives 1 '' '*FIELD (17) at bit 10: *' "$BW" pmd read ETD "$T/zero"
+check 'pmd read: BITS, a closing pair without parameters' gives 1 '' '*BITS (16) at bit 22: *' "$BW" pmd read ETD "$T/closing"
 check 'pmd read: an empty value' gives 1 '' '*BITS (16) at bit 0: *' "$BW" pmd read ESN /dev/null
 check 'pmd read: a value without end' gives 1 '' '*BIG (1) at byte 0: *' "$BW" pmd read ESN /dev/zero
-for kind in 0 7 4294967295 4294967298 99999999999999999999; do
+for kind in 0 8 4294967295 4294967298 99999999999999999999; do
     check "pmd read: kind $kind" gives 1 '' '*KIND (19) at byte 0: *' "$BW" pmd read "$kind" "$V/apn.value"
     check "pmd write: kind $kind" gives 1 '' '*KIND (19) at number 0: *' "$BW" pmd write "$kind" "$V/apn.txt"
 done
@@ -35,7 +43,7 @@ check 'pmd read: not a kind' gives 2 '' '*APX: is not a kind: *' "$BW" pmd read 
 check 'pmd write: not a kind' gives 2 '' '*: is not a kind: *' "$BW" pmd write '' "$V/apn.txt"
 check 'pmd read: no such file' gives 2 '' '*: No such file or directory' "$BW" pmd read APN "$T/absent"
 
-for name in apd apn aod xyz aen esn apn-odd; do
+for name in apd apn aod xyz aen esn etd apn-odd; do
     check "pmd read --json: $name" writes "tests/command/json/$name.json" 0 '' "$BW" pmd read --json "${name%-*}" "$V/$name.value"
 done
 
@@ -79,6 +87,33 @@ check 'pmd: every byte of a name' back ESN "substream 15 name \"$all\""
 check 'pmd: controls of direction and of C1, and what is not UTF-8, are escaped' back ESN \
     'substream 1 name "é\xC2\x9B \xE2\x80\xAE € 𝄞 \xED\xA0\x80\xF4\x90\x80\x80\xC0\xAF"'
 
+all=''
+for rate in 23.98 24 25 29.97 30; do
+    all+="${all:+$'\n'}turnaround 1 ed2 yes rate $rate pairs 0:0 dolby_e yes rate $rate program 4 pairs 0:0"
+done
+check 'pmd: every frame rate' back ETD "$all"
+programs=(5.1+2 5.1+1+1 4+4 4+2+2 4+2+1+1 4+1+1+1 2+2+2+2 2+2+2+1+1 2+2+1+1+1 2+1+1+1+1+1 1+1+1+1+1+1+1 5.1 4+2 4+1+1 2+2+2 2+2+1+1
+    2+1+1+1 1+1+1+1+1 4 2+2 2+1+1 1+1+1+1 7.1 7.1-screen)
+all='' list=''
+for i in "${!programs[@]}"; do
+    all+="${all:+$'\n'}turnaround 9 ed2 no dolby_e yes rate 24 program ${programs[i]} pairs $((i + 1)):$i 0:255"
+    list+="${list:+ }9 0 1 2 $i $((i + 1)) $i 0 255"
+done
+check 'pmd: every program' back ETD "$all"
+check 'pmd: every program by its number' gives 0 "$list" '' "$BW" pmd read --numbers ETD "$T/value"
+for ed2 in no 'yes rate 25 pairs 511:255 511:255 1:0 0:255' 'yes rate 25 pairs 0:0'; do
+    for dolby_e in no 'yes rate 29.97 program 5.1 pairs 1:0 256:128 0:1' 'yes rate 29.97 program 5.1 pairs 0:0'; do
+        check "pmd: ed2 $ed2, dolby_e $dolby_e" back ETD \
+            "turnaround 255 ed2 $ed2 dolby_e $dolby_e"$'\n'"turnaround 1 ed2 $ed2 dolby_e $dolby_e"
+    done
+done
+all=$(printf 'turnaround 255 ed2 no dolby_e no\n%.0s' {1..3276})
+check 'pmd: as many turnarounds as fit' back ETD "$all"
+printf '%s\nturnaround 255 ed2 no dolby_e no\n' "$all" >"$T/text"
+check 'pmd write: NOROOM for one more' gives 1 '' '*NOROOM (15) at number 0: *' "$BW" pmd write ETD "$T/text"
+all=$(printf '511:255 %.0s' {1..1925})
+check 'pmd: as many pairs as fit' back ETD "turnaround 255 ed2 yes rate 29.97 pairs ${all}0:255 dolby_e no"
+
 # lines KIND WANT TEXT: a bad line is told with its number.
 lines() {
     printf '%b' "$3" >"$T/text"
@@ -109,6 +144,28 @@ check 'pmd write: a gain without dB' line AOD 'BITS (16) LINE the line ends wher
 check 'pmd write: element 0 in a list' line APD "FIELD (17) LINE '0' stands where an element id*" \
     'presentation 1 speakers 2.0 language en elements 1 0 2'
 check 'pmd write: elements of nothing' line APD 'BITS (16) LINE *' 'presentation 1 speakers 2.0 language en elements'
+check 'pmd write: ed2 of neither' line ETD "FIELD (17) LINE '1' stands where yes or no is due" 'turnaround 1 ed2 1'
+check 'pmd write: no such rate' line ETD "FIELD (17) LINE '50' stands where a frame rate, 23.98, 24, 25, 29.97 or 30, is due" \
+    'turnaround 1 ed2 yes rate 50 pairs 0:0 dolby_e no'
+check 'pmd write: no such program' line ETD "FIELD (17) LINE '5.1+3' stands where a program configuration*" \
+    'turnaround 1 ed2 no dolby_e yes rate 24 program 5.1+3 pairs 0:0'
+for pair in 5 5: :9 5:9:1 5-9 5:x x:9 -1:0 : ''; do
+    check "pmd write: '$pair' is no pair" line ETD "* LINE *where a pair such as 5:9, or 0:N, which closes the list, is due" \
+        "turnaround 1 ed2 yes rate 24 pairs 1:2 $pair"
+done
+check 'pmd write: pairs that do not close' line ETD 'BITS (16) LINE the line ends where a pair such as 5:9, or 0:N*' \
+    'turnaround 1 ed2 no dolby_e yes rate 24 program 4 pairs 1:2'
+check 'pmd write: the next field before the pairs close' line ETD "FIELD (17) LINE 'dolby_e' stands where a pair*" \
+    'turnaround 1 ed2 yes rate 24 pairs 1:2 dolby_e no'
+check 'pmd write: a pair after the closing one' line ETD "FIELD (17) LINE '1:2' stands where dolby_e is due" \
+    'turnaround 1 ed2 yes rate 24 pairs 0:0 1:2 dolby_e no'
+check 'pmd write: a field that a flag leaves out' line ETD "FIELD (17) LINE 'rate' stands where dolby_e is due" \
+    'turnaround 1 ed2 no rate 24 pairs 0:0 dolby_e no'
+for field in 'turnaround 0 ed2 no' 'turnaround 256 ed2 no' 'turnaround 1 ed2 yes rate 24 pairs 512:0 0:0' \
+    'turnaround 1 ed2 yes rate 24 pairs 1:256 0:0' 'turnaround 1 ed2 yes rate 24 pairs 0:4294967296'; do
+    check "pmd write: $field, told by line" lines ETD 'FIELD (17) at line 2: a reserved value*' \
+        "turnaround 1 ed2 no dolby_e no\n$field dolby_e no\n"
+done
 check 'pmd write: a reserved id, told by line' lines AEN 'FIELD (17) at line 3: a reserved value*' '\nelement 1 name "a"\nelement 0 name "b"\n'
 check 'pmd write: a number too wide, told by line' lines AEN 'FIELD (17) at line 2: *' 'element 4095 name ""\nelement 4096 name ""\n'
 check 'pmd write: a number wider than 32 bits' lines AEN 'FIELD (17) at line 1: *' 'element 4294967297 name ""\n'
@@ -120,26 +177,31 @@ printf 'substream 1 name "%s"\n' "$(head -c 4096 /dev/zero | tr '\0' a)" >"$T/te
 check 'pmd write: NOROOM' gives 1 '' '*NOROOM (15) at number 0: *' "$BW" pmd write ESN "$T/text"
 check 'pmd write: a text without end is cut off' gives 1 '' '*BIG (1) at line 0: a text has at most*' \
     "$BW" pmd write ESN /dev/zero
-# bare WANT TEXT: a bad list of bare numbers.
-bare() { printf '%b' "$2" >"$T/text" && gives 1 '' "*: refused: $1" "$BW" pmd write --numbers ESN "$T/text"; }
+# bare WANT TEXT [KIND]: a bad list of bare numbers, of ESN unless said.
+bare() { printf '%b' "$2" >"$T/text" && gives 1 '' "*: refused: $1" "$BW" pmd write --numbers "${3-ESN}" "$T/text"; }
 check 'pmd write --numbers: FIELD at an index' bare 'FIELD (17) at number 4: *' '1 65 0\n2 256 0\n'
 check 'pmd write --numbers: a list that ends early' bare 'BITS (16) at number 2: *' '1 65\n'
+check 'pmd write --numbers: a flag above 1' bare 'FIELD (17) at number 1: *' '1 2 0\n' ETD
+check 'pmd write --numbers: a closing pair without parameters' bare 'BITS (16) at number 4: *' '1 1 3 0\n' ETD
 check 'pmd write --numbers: not a number' bare "FIELD (17) at line 2: '-1' stands where a number is due" '1\n-1\n'
 
-check 'pmd find: every kind, in and out of Syncs' gives 0 "PMD Version at byte 160, value bytes: 2
+check 'pmd find: every kind, in and out of Syncs' gives 0 "PMD Version at byte 177, value bytes: 2
   values of this kind are not decoded
-Audio Bed Description at byte 164, value bytes: 1
+Audio Bed Description at byte 181, value bytes: 1
   values of this kind are not decoded
-APD Audio Presentation Description at byte 167, value bytes: 17
+APD Audio Presentation Description at byte 184, value bytes: 17
   presentation 1 speakers 5.1.4*
 APN*
 AEN*
 ESN*
+ETD ED2 Turnaround Description at byte 266, value bytes: 24
+  turnaround 1 ed2 yes rate 25 pairs 1:1 2:9 0:0 dolby_e yes*
+  turnaround 255 ed2 no dolby_e no
 AOD Audio Object Description at byte *, in the Sync at byte *
 XYZ Dynamic Position Update at byte *, in the Sync at byte *
   sample_time 1
 *" '' "$BW" pmd find "$SAMPLES/packs/each-kind.pack"
-check 'pmd find --numbers' gives 0 $'*ESN*\n  1 65 0\nAOD*' '' "$BW" pmd find --numbers "$SAMPLES/packs/each-kind.pack"
+check 'pmd find --numbers' gives 0 $'*ESN*\n  1 65 0\nETD*\n  1 1 3 * 255 0 0\nAOD*' '' "$BW" pmd find --numbers "$SAMPLES/packs/each-kind.pack"
 check 'pmd find --json' writes tests/command/json/each-kind.json 0 '' "$BW" pmd find --json "$SAMPLES/packs/each-kind.pack"
 check 'pmd find: a value that is refused' gives 1 $'APN*\n  refused 16 264\nAPN*name "Main mix"*' '*bad-value.pack: payload at byte 38: refused: BITS (16) at bit 264: *' \
     "$BW" pmd find "$SAMPLES/packs/bad-value.pack"
