@@ -336,14 +336,31 @@ static const value_case VALUES[] = {
     {"an element's name", BW_AEN, "00 14 10 00", BW_DONE, 0, {1, 65, 0}, 3},
     {"a substream's name", BW_ESN, "141000", BW_DONE, 0, {1, 65, 0}, 3},
     {"two substreams", BW_ESN, "14100100", BW_DONE, 0, {1, 65, 0, 1, 0}, 5},
+    {"a turnaround for nothing", BW_ETD, "0700", BW_DONE, 0, {7, 0, 0}, 3},
+    {"a turnaround for ED2", BW_ETD, "01 98 14 24 00 06", BW_DONE, 0, {1, 1, 3, 5, 9, 0, 3, 0}, 8},
+    {"a turnaround for Dolby E", BW_ETD, "01 56 FF F0 00 07 F8", BW_DONE, 0, {1, 0, 1, 5, 23, 511, 0, 0, 255}, 9},
+    {"a turnaround for both, without pairs", BW_ETD, "FF 88 03 FE A0 00 00 00", BW_DONE, 0,
+     {255, 1, 1, 0, 255, 1, 5, 0, 0, 0}, 10},
+    {"two turnarounds", BW_ETD, "07 00 80", BW_DONE, 0, {7, 0, 0, 2, 0, 0}, 6},
+    {"a turnaround 0", BW_ETD, "0000", BW_FIELD, 0, {0}, 0},
+    {"a second turnaround 0", BW_ETD, "07 00 00", BW_FIELD, 10, {0}, 0},
+    {"leftover bits of a turnaround", BW_ETD, "07 01", BW_PAD, 10, {0}, 0},
+    {"frame_rate 0", BW_ETD, "01 80 00 00 00", BW_FIELD, 9, {0}, 0},
+    {"frame_rate 6", BW_ETD, "01 B0 00 00", BW_FIELD, 9, {0}, 0},
+    {"frame_rate 15 of Dolby E", BW_ETD, "01 7C 00 00 00", BW_FIELD, 10, {0}, 0},
+    {"pgmconfig 24", BW_ETD, "01 47 00 00 00", BW_FIELD, 14, {0}, 0},
+    {"a turnaround without its second flag", BW_ETD, "01 88 04 00 02 00 00 00", BW_BITS, 64, {0}, 0},
+    {"a closing pair without its parameters", BW_ETD, "01 88 00", BW_BITS, 22, {0}, 0},
+    {"pairs that do not close", BW_ETD, "01 88 04 00", BW_BITS, 30, {0}, 0},
     {"leftover bits", BW_ESN, "141001", BW_PAD, 20, {0}, 0},
     {"an empty value", BW_ESN, "", BW_BITS, 0, {0}, 0},
     {"a sample time alone", BW_XYZ, "FF", BW_BITS, 6, {0}, 0},
     {"an element 0", BW_AEN, "0004 1000", BW_FIELD, 0, {0}, 0},
     {"an x of 0", BW_XYZ, "0000400803FF", BW_FIELD, 18, {0}, 0},
     {"kind 0", 0, "141000", BW_KIND, 0, {0}, 0},
-    {"kind 7", 7, "141000", BW_KIND, 0, {0}, 0},
-    {"kind 7 before a value above the cap", 7, "{11}4097", BW_KIND, 0, {0}, 0},
+    {"kind 8", 8, "141000", BW_KIND, 0, {0}, 0},
+    {"kind 8 before a value above the cap", 8, "{11}4097", BW_KIND, 0, {0}, 0},
+    {"the greatest kind", UINT32_MAX, "141000", BW_KIND, 0, {0}, 0},
     {"a value above the cap", BW_ESN, "{11}4097", BW_BIG, 0, {0}, 0},
     {"a value as long as it may be", BW_ESN, "{11}4096", BW_BITS, 32764, {0}, 0},
 };
@@ -419,7 +436,18 @@ static const list_case LISTS[] = {
     {"class 7", BW_AOD, {1, 7, 0, 1, 1, 1, 0, 0, 0, 0, 0}, 11, BW_FIELD, 1},
     {"speaker_config 7", BW_APD, {1, 7, 5568, 0}, 4, BW_FIELD, 1},
     {"langcod with a group of 28", BW_APN, {1, 28u << 10 | 1u << 5, 0}, 3, BW_FIELD, 1},
-    {"kind 7", 7, {1, 0}, 2, BW_KIND, 0},
+    {"a turnaround 256", BW_ETD, {256, 0, 0}, 3, BW_FIELD, 0},
+    {"ed2_exists 2", BW_ETD, {1, 2, 0}, 3, BW_FIELD, 1},
+    {"dolbye_exists 2", BW_ETD, {1, 0, 2}, 3, BW_FIELD, 2},
+    {"frame_rate 6", BW_ETD, {1, 1, 6, 0, 0, 0}, 6, BW_FIELD, 2},
+    {"pgmconfig 24", BW_ETD, {1, 0, 1, 5, 24, 0, 0}, 7, BW_FIELD, 4},
+    {"a pair of presentation 512", BW_ETD, {1, 1, 1, 512, 0, 0, 0, 0}, 8, BW_FIELD, 3},
+    {"a pair of parameters 256", BW_ETD, {1, 1, 1, 1, 256, 0, 0, 0}, 8, BW_FIELD, 4},
+    {"a closing pair of parameters 256", BW_ETD, {1, 1, 1, 0, 256, 0}, 6, BW_FIELD, 4},
+    {"a closing pair without its parameters", BW_ETD, {1, 0, 1, 5, 23, 0}, 6, BW_BITS, 6},
+    {"a turnaround without its second flag", BW_ETD, {1, 1, 1, 0, 0}, 5, BW_BITS, 5},
+    {"kind 0", 0, {1, 0}, 2, BW_KIND, 0},
+    {"kind 8", 8, {1, 0}, 2, BW_KIND, 0},
 };
 
 static bool try_refused_list(const void *given)
@@ -452,19 +480,39 @@ static void fill_list(uint32_t *list, size_t records, bool with_name)
     }
 }
 
-/* 2,730 records and a byte of a name fill 4,096 bytes. */
-static bool try_longest(const void *unused)
+/* A list written into `size` bytes, and read back into as many numbers as it has. */
+static bool there_and_back(uint32_t kind, const uint32_t *list, size_t count, size_t size)
 {
-    static uint32_t list[BW_PMD_NUMBERS_MAX];
-    (void)unused;
-    fill_list(list, 2730, true);
-    lent out = lent_to_write(BW_PMD_VALUE_MAX, side), numbers = lent_to_write(sizeof list, side);
-    bool good = is(bw_pmd_write(BW_ESN, list, BW_PMD_NUMBERS_MAX, out.bytes, out.len), BW_DONE, BW_PMD_VALUE_MAX);
-    bw_answer got = bw_pmd_read(BW_ESN, out.bytes, out.len, (uint32_t *)numbers.bytes, BW_PMD_NUMBERS_MAX);
-    good = good && is(got, BW_DONE, BW_PMD_NUMBERS_MAX) && memcmp(numbers.bytes, list, sizeof list) == 0;
+    lent out = lent_to_write(size, side), numbers = lent_to_write(4 * count, side);
+    bool good = is(bw_pmd_write(kind, list, count, out.bytes, size), BW_DONE, size);
+    bw_answer got = bw_pmd_read(kind, out.bytes, size, (uint32_t *)numbers.bytes, count);
+    good = good && is(got, BW_DONE, count) && memcmp(numbers.bytes, list, 4 * count) == 0;
     lent_back(&out);
     lent_back(&numbers);
     return good;
+}
+
+/* 2,730 records and a byte of a name fill 4,096 bytes. */
+static bool try_longest(const void *unused)
+{
+    static uint32_t list[2 * 2730 + 1];
+    (void)unused;
+    fill_list(list, 2730, true);
+    return there_and_back(BW_ESN, list, 2 * 2730 + 1, BW_PMD_VALUE_MAX);
+}
+
+/* 3,276 turnarounds for nothing, of 10 bits and three numbers each, are as many numbers as a value can have. */
+static bool try_most_numbers(const void *unused)
+{
+    static uint32_t list[BW_PMD_NUMBERS_MAX + 3];
+    (void)unused;
+    for (size_t i = 0; i < BW_PMD_NUMBERS_MAX + 3; i += 3)
+        list[i] = 255;
+    lent out = lent_to_write(2 * BW_PMD_VALUE_MAX, side);
+    bool good = is(bw_pmd_write(BW_ETD, list, BW_PMD_NUMBERS_MAX + 3, out.bytes, out.len), BW_NOROOM, 0);
+    good = good && lent_rest_is(&out, 0, LENT_FILLER);
+    lent_back(&out);
+    return good && there_and_back(BW_ETD, list, BW_PMD_NUMBERS_MAX, 4095);
 }
 
 static bool try_too_long(const void *unused)
@@ -556,6 +604,7 @@ int main(int count, char **arguments)
     values();
     lists();
     test(try_longest, NULL, "bw_pmd_write and bw_pmd_read", "as much as fits 4,096 bytes");
+    test(try_most_numbers, NULL, "bw_pmd_write and bw_pmd_read", "as many numbers as a value can have");
     test(try_too_long, NULL, "bw_pmd_write", "a value above the cap");
     empty_ranges();
     gains();

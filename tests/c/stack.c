@@ -129,10 +129,11 @@ static size_t most_of_packs(void (*call)(void))
 static void pmd(void)
 {
     size_t reading = 0, writing = 0;
-    static const uint32_t records[][11] = {{1, 0, 5568, 0}, {1, 5568, 0}, {1, 0, 0, 1, 1, 1, 0, 0, 0, 0, 0},
-                                           {1, 1, 1, 1},    {1, 65, 0},   {1, 65, 0}};
-    static const size_t sizes[] = {4, 3, 11, 4, 3, 3};
-    for (kind = BW_APD; kind <= BW_ESN; kind++) {
+    static const uint32_t records[][14] = {{1, 0, 5568, 0}, {1, 5568, 0}, {1, 0, 0, 1, 1, 1, 0, 0, 0, 0, 0},
+                                           {1, 1, 1, 1},    {1, 65, 0},   {1, 65, 0},
+                                           {1, 1, 3, 5, 9, 0, 3, 1, 3, 23, 5, 9, 0, 3}};
+    static const size_t sizes[] = {4, 3, 11, 4, 3, 3, 14};
+    for (kind = BW_APD; kind <= BW_ETD; kind++) {
         size_t size = sizes[kind - 1];
         number_count = kind == BW_XYZ;
         for (size_t i = 0; i < 100; i++, number_count += size)
