@@ -24,7 +24,7 @@ const LENT_BYTE: u8 = 0xEE;
 const SHOWN: usize = 12;
 /// What the program has room for: bytes of cases, and numbers of a lent run.
 const MAX_CASES: usize = 65_536;
-const MAX_ROOM: usize = 8_192;
+const MAX_ROOM: usize = 9_828;
 
 /// A field: its width, some numbers that it takes, and some that are reserved.
 struct Field {
@@ -360,6 +360,7 @@ impl Cases {
         let (most, more) = (bare(3276), bare(3277));
         let (value, too_long) = (packed(&most), packed(&more));
         self.read("etd, the most numbers", 7, &value, MAX_ROOM);
+        self.read("etd, the most numbers", 7, &value, MAX_ROOM - 1);
         self.read("etd, more numbers", 7, &too_long, MAX_ROOM);
         self.read("etd, more numbers, cut off", 7, &too_long[..4096], MAX_ROOM);
         self.write("etd, the most numbers", 7, &numbers(&most), value.len());

@@ -121,7 +121,7 @@ fn asked(kind: u32, n: usize, given: &[u8], room: usize) {
 
 // Reads a value into a run of so many numbers.
 fn read(kind: u32, value: &[u8], room: usize) {
-    let mut numbers = [99999u32; 8192];
+    let mut numbers = [99999u32; 9828];
     if numbers.len() < room {
         cut();
         return;
@@ -132,7 +132,7 @@ fn read(kind: u32, value: &[u8], room: usize) {
 }
 
 fn read_run(kind: u32, value: &[u8], run: &mut [u32]) {
-    let mut bytes = [0u8; 32768];
+    let mut bytes = [0u8; 39312];
     let answer = pmd_read::pmd_read(kind, value, &mut *run);
     told(answer);
     shown_numbers(run);
