@@ -3,7 +3,7 @@
 use mathlib.Core.Path.{_≡_}
 use mathlib.Core.List.{List, [], _∷_, _++_}
 use mathlib.Core.Bool.{Bool, true, false, cond, _&&_}
-use Prim.Native.Nat.{ℕ, _-_, _<_, _≤_}
+use Prim.Native.Nat.{ℕ, _+_, _-_, _<_, _≤_}
 use lib.Dec.{eqb}
 use lib.ListN.{length, take, drop, replicate}
 use Rattle.refusals.specs.Outcomes.{Outcome, fine}
@@ -132,23 +132,25 @@ turnIn T.ProgramConfig = F.ProgramConfig
 turnIn T.Paired = F.Paired
 turnIn T.Parameters = F.Parameters
 
--- a step: a field, the step that follows its 0, and the step that follows any other number
-abbrev pub step : TurnField → ℕ → ℕ → Step
-step f onZero onOther = record { 0 = f; 1 = widthOf (turnIn f); 2 = onZero; 3 = onOther }
+-- a step: a field, whether it is the first of pairs, and how many steps its 0 passes over
+abbrev pub step : TurnField → Bool → ℕ → Step
+step f paired over = record { 0 = f; 1 = widthOf (turnIn f); 2 = paired; 3 = over }
 
-abbrev pub nextStep : Step → ℕ → ℕ
-nextStep p v = cond (eqb v 0) (p .2) (p .3)
-
--- Each list of pairs has its second field twice: after a presentation, before the next pair, and after the 0, where the list ends. The record is over
--- at step 12.
-abbrev pub turnaroundSteps : List Step
-turnaroundSteps =
-    step T.Id 1 1
-    ∷ step T.Exists 6 2 ∷ step T.FrameRate 3 3 ∷ step T.Paired 5 4 ∷ step T.Parameters 3 3 ∷ step T.Parameters 6 6
-    ∷ step T.Exists 12 7 ∷ step T.FrameRate 8 8 ∷ step T.ProgramConfig 9 9 ∷ step T.Paired 11 10 ∷ step T.Parameters 9 9 ∷ step T.Parameters 12 12 ∷ []
-
+-- the steps of a turnaround, one for each part of its record
 abbrev pub turnaround : Steps
-turnaround = record { all = turnaroundSteps }
+turnaround = record {
+  all =
+      step T.Id false 0
+      ∷ step T.Exists false 2 ∷ step T.FrameRate false 0 ∷ step T.Paired true 0
+      ∷ step T.Exists false 3 ∷ step T.FrameRate false 0 ∷ step T.ProgramConfig false 0 ∷ step T.Paired true 0 ∷ [];
+}
+
+-- the step after step i: after a pair whose first field is v the same again, until it is 0; after a field whose 0 passes over n steps
+abbrev pub afterPair : ℕ → ℕ → ℕ
+afterPair i v = cond (eqb v 0) (i + 1) i
+
+abbrev pub afterField : ℕ → ℕ → ℕ → ℕ
+afterField i n v = cond (eqb v 0) (i + 1 + n) (i + 1)
 
 -- an outcome is a list that has room, so that it can be stored or put without a look at what might be wrong
 pub record Roomy (o : Outcome (List ℕ)) (room : ℕ) : Type 0 where

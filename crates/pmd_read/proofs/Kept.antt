@@ -20,18 +20,19 @@ use Rattle.refusals.specs.declared.Answer.{Answer}
 use Rattle.refusals.specs.declared.Answer.the-variants as A
 use Rattle.refusals.proofs.Lent.{answers, counts}
 use Rattle.pmd.specs.Fields.{Field}
+use Rattle.pmd.specs.Fields as F
 use Rattle.pmd.specs.declared.Kind.the-variants as K
 use Rattle.pmd.specs.declared.Piece.{Piece}
 use Rattle.pmd.specs.declared.Shape.{Shape}
 use Rattle.pmd.specs.declared.Step.{Step}
 use Rattle.pmd.specs.declared.Value.{Value}
-use Rattle.pmd.specs.Table.{widthOf, typed, mayHold, Part, recordOf}
+use Rattle.pmd.specs.Table.{widthOf, typed, mayHold, Part, once, recordOf}
 use Rattle.pmd.specs.Records.{fieldOf, width, takes, after, closed, opened}
 use Rattle.pmd.specs.Reading.{padding, readFrom, readAll}
-use Rattle.pmd.specs.Shapes.{asNumber, fieldIn, turnIn, partOf, goesOn, onward, leftOf, Walkable, nextStep, Roomy}
+use Rattle.pmd.specs.Shapes.{asNumber, fieldIn, turnIn, partOf, goesOn, onward, leftOf, Walkable, afterPair, afterField, Roomy}
 use Rattle.pmd.proofs.Fields.{narrow, number-value}
 use Rattle.pmd.proofs.Next.{Next, next-piece, after-piece}
-use Rattle.pmd.proofs.Turnarounds.{leftAt, left-first, Stepped, Strides, strides-on}
+use Rattle.pmd.proofs.Turnarounds.{leftAt, left-first, Stepped, next-parameters, after-parameters, Strides, strides-on}
 use Rattle.pmd.proofs.Walk.{Records, Fields, left-next, fields-open, fields-on}
 use Rattle.pmd.proofs.Begun.{Begun, begun-none, begun-on, begun-as, begun-refused, begun-ends, begun-fits, roomy-never}
 use Rattle.pmd_read.specs.ByShape.{readBy, readShape}
@@ -244,11 +245,16 @@ pub turn-again : {P : List ℕ → Type 0} {s : List ℕ} {at n : ℕ} → InTur
 turn-again {P} {s} {at} {n} o h = subst (InTurn P s at n) (sym left-first) (over-on o refl h)
 
 -- the field of the step is due
-module _ {P : List ℕ → Type 0} {s : List ℕ} {at₀ i₀ at n i : ℕ} {p : Step} (k : Strides (InTurn P s at n) at₀ i₀ at i) (q : Stepped p (leftAt i)) where
-  -- after its number v the next step is due
-  onto : {Q : List ℕ → Type 0} {m j : ℕ} (v : ℕ) → 1 ≤ p .1 → j ≡ nextStep p v → InTurn Q s (at + p .1) m (after (leftAt i) v)
+module _ {P : List ℕ → Type 0} {s : List ℕ} {at₀ i₀ at n i : ℕ} {p : Step} (k : Strides (InTurn P s at n) at₀ i₀ at i) (q : Stepped p i) where
+  -- after its number v the step is due that it leads to
+  onto : {Q : List ℕ → Type 0} {m j : ℕ} (v : ℕ) → 1 ≤ p .1 → p .2 ≡ false → j ≡ afterField i (p .3) v → InTurn Q s (at + p .1) m (after (leftAt i) v)
       → Strides (InTurn Q s (at + p .1) m) at₀ i₀ (at + p .1) j
-  onto {Q} {m} v some e f = strides-on k (omega arith) (subst (InTurn Q s (at + p .1) m) (q .on v ∙ ap leftAt (sym e)) f)
+  onto {Q} {m} v some one e f = strides-on k (omega arith) e (subst (InTurn Q s (at + p .1) m) (q .alone one v) f)
+
+  -- or the second field of the pair
+  half : {Q : List ℕ → Type 0} {m : ℕ} (v : ℕ) → p .2 ≡ true → InTurn Q s (at + p .1) m (after (leftAt i) v)
+      → InTurn Q s (at + p .1) m (once F.Parameters ∷ leftAt (afterPair i v))
+  half {Q} {m} v two f = subst (InTurn Q s (at + p .1) m) (q .paired two v) f
 
   pub step-fits : (n ≤ at) × (at ≤ 8 * length s) × (1 ≤ p .1) × (p .1 ≤ 15)
   step-fits = field-fits (k .known) (q .next) (q .wide)
@@ -260,14 +266,39 @@ module _ {P : List ℕ → Type 0} {s : List ℕ} {at₀ i₀ at n i : ℕ} {p :
     pub step-bad : mayHold x ≡ false → readAll K.Etd s ≡ refused R.Field at
     step-bad = field-bad (k .known) (q .next) (q .wide) h ev ex
 
-    pub step-on : mayHold x ≡ true → {j : ℕ} {Q : List ℕ → Type 0} → j ≡ nextStep p v → Q (k .known .xs ++ (v ∷ []))
-        → Strides (InTurn Q s (at + p .1) (n + 1)) at₀ i₀ (at + p .1) j
-    step-on b e also = onto v (step-fits .2) e (field-on (k .known) (q .next) (q .wide) h ev ex b also)
+    module _ (b : mayHold x ≡ true) {Q : List ℕ → Type 0} (also : Q (k .known .xs ++ (v ∷ []))) where
+      pub step-on : {j : ℕ} → p .2 ≡ false → j ≡ afterField i (p .3) v → Strides (InTurn Q s (at + p .1) (n + 1)) at₀ i₀ (at + p .1) j
+      step-on one e = onto v (step-fits .2) one e (field-on (k .known) (q .next) (q .wide) h ev ex b also)
+
+      pub step-half : p .2 ≡ true → InTurn Q s (at + p .1) (n + 1) (once F.Parameters ∷ leftAt (afterPair i v))
+      step-half two = half v two (field-on (k .known) (q .next) (q .wide) h ev ex b also)
 
   module _ {room : ℕ} (roomy : Roomy (readAll K.Etd s) room) where
     pub step-sure : (n ≤ at) × (at + p .1 ≤ 8 * length s) × (1 ≤ p .1) × (p .1 ≤ 15) × (n < room)
     step-sure = field-sure (k .known) (q .next) (q .wide) roomy
 
-    pub step-stored : {v r : ℕ} {x : Value} {j : ℕ} {Q : List ℕ → Type 0} → v ≡ fieldAt s at (p .1) → x ≡ typed (turnIn (p .0)) v → r ≡ asNumber x
-        → j ≡ nextStep p r → Q (k .known .xs ++ (r ∷ [])) → Strides (InTurn Q s (at + p .1) (n + 1)) at₀ i₀ (at + p .1) j
-    step-stored {r = r} ev ex er e also = onto r (step-fits .2) e (field-stored (k .known) (q .next) (q .wide) roomy ev ex er also)
+    module _ {v r : ℕ} {x : Value} {Q : List ℕ → Type 0} (ev : v ≡ fieldAt s at (p .1)) (ex : x ≡ typed (turnIn (p .0)) v) (er : r ≡ asNumber x) (also : Q (k .known .xs ++ (r ∷ []))) where
+      pub step-stored : {j : ℕ} → p .2 ≡ false → j ≡ afterField i (p .3) r → Strides (InTurn Q s (at + p .1) (n + 1)) at₀ i₀ (at + p .1) j
+      step-stored one e = onto r (step-fits .2) one e (field-stored (k .known) (q .next) (q .wide) roomy ev ex er also)
+
+      pub half-stored : p .2 ≡ true → InTurn Q s (at + p .1) (n + 1) (once F.Parameters ∷ leftAt (afterPair i r))
+      half-stored two = half r two (field-stored (k .known) (q .next) (q .wide) roomy ev ex er also)
+
+-- the second field of a pair is due, of which every number is good; then `left` is left
+module _ {P : List ℕ → Type 0} {s : List ℕ} {at n : ℕ} {left : List Part} (o : InTurn P s at n (once F.Parameters ∷ left)) where
+  done : {Q : List ℕ → Type 0} (v : ℕ) → InTurn Q s (at + 8) (n + 1) (after (once F.Parameters ∷ left) v) → InTurn Q s (at + 8) (n + 1) left
+  done {Q} v k = subst (InTurn Q s (at + 8) (n + 1)) (after-parameters left v) k
+
+  pub second-short : 8 * length s - at < 8 → readAll K.Etd s ≡ refused R.Bits at
+  second-short = field-short o (next-parameters left) refl
+
+  pub second-on : {Q : List ℕ → Type 0} → 8 ≤ 8 * length s - at → Q (o .xs ++ (fieldAt s at 8 ∷ [])) → InTurn Q s (at + 8) (n + 1) left
+  second-on h also = done _ (field-on o (next-parameters left) refl h refl refl refl also)
+
+  module _ {room : ℕ} (roomy : Roomy (readAll K.Etd s) room) where
+    pub second-sure : (n ≤ at) × (at + 8 ≤ 8 * length s) × (1 ≤ 8) × (8 ≤ 15) × (n < room)
+    second-sure = field-sure o (next-parameters left) refl roomy
+
+    pub second-stored : {v r : ℕ} {x : Value} {Q : List ℕ → Type 0} → v ≡ fieldAt s at 8 → x ≡ typed F.Parameters v → r ≡ asNumber x → Q (o .xs ++ (r ∷ []))
+        → InTurn Q s (at + 8) (n + 1) left
+    second-stored ev ex er also = done _ (field-stored o (next-parameters left) refl roomy ev ex er also)

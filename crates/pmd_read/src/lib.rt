@@ -1,6 +1,8 @@
 // Reads PMD values into lent numbers. A value is judged and counted in a first pass and stored in a second, so that a refusal changes nothing.
 use pmd::Named;
+use pmd::PARAMETERS;
 use pmd::Shape;
+use pmd::TurnField;
 use refusals::Answer;
 use refusals::Refusal;
 ghost use mathlib.Core.Path.{_≡_};
@@ -95,7 +97,7 @@ fn fill(shape: Shape, s: &[u8], numbers: &mut [u32])
     }
 }
 
-// How many fields the turnarounds of a value have, or what is wrong with them.
+// How many fields the turnarounds of a value have, or what is wrong with them. A parameter set is any number of its bits.
 fn count_turnarounds(s: &[u8]) -> Answer
     requires { ⌜ length (now s) ≤ 4096 ⌝ }
     ensures { λ r. ⌜ r ≡ answered length (readAll K.Etd (now (s .entry))) ⌝ }
@@ -105,7 +107,7 @@ fn count_turnarounds(s: &[u8]) -> Answer
     let mut n: usize = 0;
     let mut i: usize = 0;
     loop {
-        while i < 12 {
+        while i < 8 {
             let step = steps.all[i];
             let f = step.0;
             let w = step.1 as usize;
@@ -118,7 +120,16 @@ fn count_turnarounds(s: &[u8]) -> Answer
             }
             at += w;
             n += 1;
-            i = pmd::next_step(step, v);
+            if step.2 {
+                if 8 * s.len() - at < PARAMETERS {
+                    return pmd::refused(Refusal::Bits, at);
+                }
+                at += PARAMETERS;
+                n += 1;
+                i = pmd::after_pair(i, v);
+            } else {
+                i = pmd::after_field(i, step.3, v);
+            }
         }
         let unread = 8 * s.len() - at;
         if unread < 8 {
@@ -138,7 +149,7 @@ fn fill_turnarounds(s: &[u8], numbers: &mut [u32])
     let mut n: usize = 0;
     let mut i: usize = 0;
     loop {
-        while i < 12 {
+        while i < 8 {
             let step = steps.all[i];
             let f = step.0;
             let w = step.1 as usize;
@@ -146,7 +157,15 @@ fn fill_turnarounds(s: &[u8], numbers: &mut [u32])
             numbers[n] = v;
             at += w;
             n += 1;
-            i = pmd::next_step(step, v);
+            if step.2 {
+                let second = bits::fetch(s, at, PARAMETERS);
+                numbers[n] = pmd::number_of(pmd::turn_value(TurnField::Parameters, second));
+                at += PARAMETERS;
+                n += 1;
+                i = pmd::after_pair(i, v);
+            } else {
+                i = pmd::after_field(i, step.3, v);
+            }
         }
         if 8 * s.len() - at < 8 {
             return;

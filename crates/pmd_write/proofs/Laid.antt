@@ -16,17 +16,18 @@ use Rattle.refusals.specs.Outcomes.{Outcome, fine, refused}
 use Rattle.refusals.specs.Lent.{prepend}
 use Rattle.refusals.specs.declared.Refusal.the-variants as R
 use Rattle.pmd.specs.Fields.{Field}
+use Rattle.pmd.specs.Fields as F
 use Rattle.pmd.specs.declared.Kind.the-variants as K
 use Rattle.pmd.specs.declared.Piece.{Piece}
 use Rattle.pmd.specs.declared.Shape.{Shape}
 use Rattle.pmd.specs.declared.Step.{Step}
-use Rattle.pmd.specs.Table.{widthOf, Part, recordOf}
+use Rattle.pmd.specs.Table.{widthOf, Part, once, recordOf}
 use Rattle.pmd.specs.Records.{fieldOf, fits, width, takes, after, closed, opened}
 use Rattle.pmd.specs.Writing.{writeFrom}
-use Rattle.pmd.specs.Shapes.{fieldIn, partOf, goesOn, onward, leftOf, Walkable, nextStep, Roomy}
+use Rattle.pmd.specs.Shapes.{fieldIn, partOf, goesOn, onward, leftOf, Walkable, afterPair, afterField, Roomy}
 use Rattle.pmd.proofs.Fields.{narrow}
 use Rattle.pmd.proofs.Next.{Next, next-piece, after-piece}
-use Rattle.pmd.proofs.Turnarounds.{leftAt, Stepped, left-first}
+use Rattle.pmd.proofs.Turnarounds.{leftAt, left-first, Stepped, after-parameters}
 use Rattle.pmd.proofs.Walk.{Records, Fields, left-next, fields-open, fields-on}
 use Rattle.pmd.proofs.Begun.{Begun, begun-none, begun-on, begun-as, begun-refused, begun-ends, begun-fits, roomy-never}
 use Rattle.pmd_write.specs.ByShape.{writeBy, writeShape, weight}
@@ -182,10 +183,17 @@ turn-none {P} {vs} also = subst (InTurn P vs 0) (sym left-first) (run-none also)
 pub turn-again : {P : List ℕ → Type 0} {vs : List ℕ} {n : ℕ} → InTurn P vs n [] → n < length vs → InTurn P vs n (leftAt 0)
 turn-again {P} {vs} {n} o h = subst (InTurn P vs n) (sym left-first) (over-on o refl h)
 
--- the step that follows its number stands where this is left
-pub turn-on : {P : List ℕ → Type 0} {vs : List ℕ} {n j : ℕ} {p : Step} {left : List Part} → Stepped p left → (v : ℕ) → j ≡ nextStep p v → InTurn P vs n (after left v)
-    → InTurn P vs n (leftAt j)
-turn-on {P} {vs} {n} s v e k = subst (InTurn P vs n) (s .on v ∙ ap leftAt (sym e)) k
+-- after the number of a step's field: the step that it leads to, or the second field of a pair, and then the step that the pair leads to
+module _ {P : List ℕ → Type 0} {vs : List ℕ} {n : ℕ} where
+  module _ {p : Step} {i : ℕ} (s : Stepped p i) (v : ℕ) (k : InTurn P vs n (after (leftAt i) v)) where
+    pub turn-on : p .2 ≡ false → InTurn P vs n (leftAt (afterField i (p .3) v))
+    turn-on one = subst (InTurn P vs n) (s .alone one v) k
+
+    pub turn-half : p .2 ≡ true → InTurn P vs n (once F.Parameters ∷ leftAt (afterPair i v))
+    turn-half two = subst (InTurn P vs n) (s .paired two v) k
+
+  pub turn-second : {left : List Part} (v : ℕ) → InTurn P vs n (after (once F.Parameters ∷ left) v) → InTurn P vs n left
+  turn-second {left} v k = subst (InTurn P vs n) (after-parameters left v) k
 
 -- WEIGHING
 

@@ -2,6 +2,7 @@
 use bits::Pen;
 use pmd::Field;
 use pmd::Named;
+use pmd::PARAMETERS;
 use pmd::Shape;
 use pmd::TurnField;
 use refusals::Answer;
@@ -125,7 +126,7 @@ fn weigh_turnarounds(numbers: &[u32]) -> Answer
     let mut n: usize = 0;
     let mut i: usize = 0;
     loop {
-        while i < 12 {
+        while i < 8 {
             let step = steps.all[i];
             let f = step.0;
             let w = step.1 as usize;
@@ -138,7 +139,19 @@ fn weigh_turnarounds(numbers: &[u32]) -> Answer
             }
             total += choose(few, w, 0);
             n += 1;
-            i = pmd::next_step(step, v);
+            if step.2 {
+                if numbers.len() <= n {
+                    return pmd::refused(Refusal::Bits, n);
+                }
+                if !turn_takes(TurnField::Parameters, PARAMETERS, numbers[n]) {
+                    return pmd::refused(Refusal::Field, n);
+                }
+                total += choose(few, PARAMETERS, 0);
+                n += 1;
+                i = pmd::after_pair(i, v);
+            } else {
+                i = pmd::after_field(i, step.3, v);
+            }
         }
         if numbers.len() <= n {
             return Answer::Done(total);
@@ -161,14 +174,21 @@ fn put_turnarounds(numbers: &[u32], out: &mut [u8]) -> Answer
     let mut n: usize = 0;
     let mut i: usize = 0;
     loop {
-        while i < 12 {
+        while i < 8 {
             let step = steps.all[i];
             let f = step.0;
             let w = step.1 as usize;
             let v = pmd::number_of(pmd::turn_value(f, numbers[n]));
             pen = bits::put_field(&mut *out, pen, w, v);
             n += 1;
-            i = pmd::next_step(step, v);
+            if step.2 {
+                let second = pmd::number_of(pmd::turn_value(TurnField::Parameters, numbers[n]));
+                pen = bits::put_field(&mut *out, pen, PARAMETERS, second);
+                n += 1;
+                i = pmd::after_pair(i, v);
+            } else {
+                i = pmd::after_field(i, step.3, v);
+            }
         }
         if numbers.len() <= n {
             return Answer::Done(bits::close_pen(&mut *out, pen));
