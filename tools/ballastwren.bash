@@ -17,8 +17,7 @@ _ballastwren_next() {
 _ballastwren_options() {
     case $1 in
     scrub) echo '--sheet --report --help' ;;
-    'pmd read' | 'pmd find') echo '--numbers --json --help' ;;
-    'pmd write') echo '--numbers --help' ;;
+    'pmd read' | 'pmd write' | 'pmd find') echo '--numbers --json --help' ;;
     *) echo '--help' ;;
     esac
 }

@@ -26,7 +26,7 @@ static const struct command commands[] = {
     {{"sheet", "make"}, 0, 0, 2, 1, make_sheet, help_sheet_make},
     {{"sheet", "show"}, 0, 1, 1, 1, show_sheet, help_sheet_show},
     {{"pmd", "read"}, TAKES_NUMBERS | TAKES_JSON, 2, 2, 2, read_value, help_pmd_read},
-    {{"pmd", "write"}, TAKES_NUMBERS, 1, 3, 2, write_value, help_pmd_write},
+    {{"pmd", "write"}, TAKES_NUMBERS | TAKES_JSON, 1, 3, 2, write_value, help_pmd_write},
     {{"pmd", "find"}, TAKES_NUMBERS | TAKES_JSON, 1, 1, 1, find_values, help_pmd_find}
 };
 

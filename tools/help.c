@@ -11,7 +11,7 @@ const char help_all[] =
     "  ballastwren sheet show SHEET                      show a keep sheet as text\n"
     "  ballastwren pmd read [--numbers | --json] KIND VALUE\n"
     "                                                    show the fields of a PMD value\n"
-    "  ballastwren pmd write [--numbers] KIND [FIELDS [VALUE]]\n"
+    "  ballastwren pmd write [--numbers | --json] KIND [FIELDS [VALUE]]\n"
     "                                                    make a PMD value from its fields\n"
     "  ballastwren pmd find [--numbers | --json] PACK    show the PMD values of a pack\n"
     "  ballastwren --help, ballastwren --version\n"
@@ -72,7 +72,7 @@ const char help_pmd_read[] =
     "  --json      one JSON object\n";
 
 const char help_pmd_write[] =
-    "ballastwren pmd write [--numbers] KIND [FIELDS [VALUE]]\n"
+    "ballastwren pmd write [--numbers | --json] KIND [FIELDS [VALUE]]\n"
     "\n"
     "Makes the PMD value VALUE from FIELDS (both '-' if not given), written as 'ballastwren pmd read' shows them:\n"
     "  APD  presentation 1 speakers 5.1.4 language en elements 1 2\n"
@@ -90,7 +90,9 @@ const char help_pmd_write[] =
     "Programs: 5.1+2 5.1+1+1 4+4 4+2+2 4+2+1+1 4+1+1+1 2+2+2+2 2+2+2+1+1 2+2+1+1+1 2+1+1+1+1+1 1+1+1+1+1+1+1 5.1\n"
     "  4+2 4+1+1 2+2+2 2+2+1+1 2+1+1+1 1+1+1+1+1 4 2+2 2+1+1 1+1+1+1 7.1 7.1-screen.\n"
     "A pair is presentation:parameters. 0:N closes the pairs, and its N is part of the value.\n"
-    "  --numbers   FIELDS is the bare list of numbers instead\n";
+    "  --numbers   FIELDS is the bare list of numbers instead\n"
+    "  --json      FIELDS is an object as 'ballastwren pmd read --json' prints it; members may stand in any order,\n"
+    "              and those that say in words what a number means may be left out and are not read\n";
 
 const char help_pmd_find[] =
     "ballastwren pmd find [--numbers | --json] PACK\n"

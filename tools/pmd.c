@@ -1,4 +1,4 @@
-/* pmd read [--numbers | --json] KIND VALUE, pmd write [--numbers] KIND [FIELDS [VALUE]] */
+/* pmd read [--numbers | --json] KIND VALUE, pmd write [--numbers | --json] KIND [FIELDS [VALUE]] */
 #include "pmd.h"
 
 #include "commands.h"
@@ -38,19 +38,32 @@ int read_value(const struct options *options)
     return ACCEPTED;
 }
 
-/* The archive counts numbers; whoever wrote the fields in words counts lines. */
-static int refuse_numbers(const char *name, bw_answer answer, const struct numbers *numbers, bool words)
+static int parse(const struct options *options, const struct kind *kind, const struct input *text,
+                 struct numbers *numbers)
 {
-    if (words && answer.number == BW_FIELD && answer.value < numbers->count)
-        return refuse_line(name, numbers->lines[answer.value], answer.number, refusal_sentence(answer.number));
-    return refuse(name, answer, "number");
+    if (text->length > TEXT_MAX)
+        return refuse_line(text->name, 0, BW_BIG, "a text has at most 262144 bytes");
+    if (options->json)
+        return parse_json(text->name, kind, text->bytes, text->length, numbers);
+    return parse_numbers(text->name, options->numbers ? NULL : kind, text->bytes, text->length, numbers);
+}
+
+/* The archive counts numbers; whoever wrote the fields in words counts lines. */
+static int refuse_numbers(const struct options *options, const struct input *text, const struct numbers *numbers,
+                          bw_answer answer)
+{
+    if (options->numbers || answer.number != BW_FIELD || answer.value >= numbers->count)
+        return refuse(text->name, answer, "number");
+    if (options->json)
+        return refuse_json(text->name, text->bytes, numbers, answer.value);
+    return refuse_line(text->name, numbers->places[answer.value], answer.number, refusal_sentence(answer.number));
 }
 
 int write_value(const struct options *options)
 {
     static uint8_t text[TEXT_MAX + 1], value[BW_PMD_VALUE_MAX];
-    static uint32_t list[TEXT_MAX + 1], lines[TEXT_MAX + 1];
-    struct numbers numbers = {list, lines, 0};
+    static uint32_t list[TEXT_MAX + 1], places[TEXT_MAX + 1];
+    struct numbers numbers = {list, places, 0};
     struct input input;
     uint32_t number;
     bw_answer answer;
@@ -60,12 +73,12 @@ int write_value(const struct options *options)
         !read_input(options->count > 1 ? options->operands[1] : "-", text, sizeof text, &input))
         return TROUBLE;
     if (kind_of(number) != NULL)
-        status = parse_numbers(input.name, options->numbers ? NULL : kind_of(number), text, input.length, &numbers);
+        status = parse(options, kind_of(number), &input, &numbers);
     if (status != ACCEPTED)
         return status;
     answer = bw_pmd_write(number, list, numbers.count, value, sizeof value);
     if (answer.number != BW_DONE)
-        return refuse_numbers(input.name, answer, &numbers, !options->numbers);
+        return refuse_numbers(options, &input, &numbers, answer);
     if (!write_output(options->count > 2 ? options->operands[2] : "-", value, (size_t)answer.value, &input, 1))
         return TROUBLE;
     return ACCEPTED;

@@ -55,14 +55,21 @@ void print_words(FILE *to, const char *indent, const struct kind *kind, const ui
 void print_numbers(FILE *to, const char *indent, const uint32_t *numbers, size_t count);
 void print_json_members(FILE *to, const struct kind *kind, const uint32_t *numbers, size_t count);
 
-/* A text as numbers, and the line that each stands on. */
+/* A text as numbers, and where each stands: its line, or in JSON its value. */
 struct numbers {
     uint32_t *list;
-    uint32_t *lines;
+    uint32_t *places;
     size_t count;
 };
 
-/* Reads what print_words prints for this kind, or with no kind bare numbers. Tells a bad line and returns REFUSED. */
+/* Reads what print_words prints for this kind, or with no kind bare numbers. Tells a bad line and returns REFUSED. The
+   text has at most TEXT_MAX bytes. */
 int parse_numbers(const char *name, const struct kind *kind, const uint8_t *text, size_t length, struct numbers *numbers);
+
+/* The same for an object as `pmd read --json` prints it. */
+int parse_json(const char *name, const struct kind *kind, const uint8_t *text, size_t length, struct numbers *numbers);
+
+/* Tells that a number of the text that parse_json read last is reserved or too wide. Returns REFUSED. */
+int refuse_json(const char *name, const uint8_t *text, const struct numbers *numbers, size_t at);
 
 #endif

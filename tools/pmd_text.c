@@ -18,7 +18,7 @@ struct parse {
 static void push(struct parse *parse, uint32_t number)
 {
     parse->to->list[parse->to->count] = number;
-    parse->to->lines[parse->to->count] = (uint32_t)parse->lines.number;
+    parse->to->places[parse->to->count] = (uint32_t)parse->lines.number;
     parse->to->count++;
 }
 
@@ -230,8 +230,6 @@ int parse_numbers(const char *name, const struct kind *kind, const uint8_t *text
     struct parse parse = {name, lines_of(text, length), numbers};
     bool once = kind != NULL && kind->once != NULL;
 
-    if (length > TEXT_MAX)
-        return refuse_line(name, 0, BW_BIG, "a text has at most 262144 bytes");
     numbers->count = 0;
     while (next_line(&parse.lines)) {
         const bool good = kind == NULL ? take_bare_line(&parse)

@@ -27,6 +27,7 @@ check 'completion: the second word' completes 'make show --help' ballastwren she
 check 'completion: kinds' completes 'APD APN AOD AEN' ballastwren pmd read A
 check 'completion: a kind of ED2' completes 'ESN ETD' ballastwren pmd write E
 check 'completion: options' completes '--sheet --report --help' ballastwren scrub --
+check 'completion: options of pmd write' completes '--numbers --json --help' ballastwren pmd write -
 check 'completion: files' completes 'samples/packs/full.pack' ballastwren check samples/packs/fu
 check 'completion: the file of an option' completes 'samples/sheets/rack.sheet' ballastwren scrub --sheet samples/sheets/rack.s
 check 'completion: OUT after PACK' completes 'samples/packs/full.pack' ballastwren scrub --sheet a b samples/packs/fu

@@ -26,6 +26,8 @@ check '--sheet without its file' gives 2 '' '*--sheet: no such option here, or i
 check '--report with standard output' gives 2 '' '*--report: OUT must be a file*' "$BW" scrub --sheet "$SHEET" --report "$PACK" -
 check '--numbers with --json' gives 2 '' '*--json: does not go with --numbers*' \
     "$BW" pmd read --numbers --json APN "$SAMPLES/values/apn.value"
+check '--numbers with --json, writing' gives 2 '' '*--json: does not go with --numbers*' \
+    "$BW" pmd write --numbers --json APN "$SAMPLES/values/apn.txt"
 check 'standard input twice' gives 2 '' '*standard input can be read only once*' "$BW" check - -
 check 'standard input as sheet and pack' gives 2 '' '*only once*' "$BW" scrub --sheet - - "$T/x"
 check '-- ends options' gives 2 '' '*--help: No such file or directory' "$BW" check -- --help
