@@ -92,7 +92,8 @@ const char help_pmd_write[] =
     "A pair is presentation:parameters. 0:N closes the pairs, and its N is part of the value.\n"
     "  --numbers   FIELDS is the bare list of numbers instead\n"
     "  --json      FIELDS is an object as 'ballastwren pmd read --json' prints it; members may stand in any order,\n"
-    "              and those that say in words what a number means may be left out and are not read\n";
+    "              and those that say in words what a number means may be left out. The number decides, for a name\n"
+    "              name_hex: words that do not agree with it are refused\n";
 
 const char help_pmd_find[] =
     "ballastwren pmd find [--numbers | --json] PACK\n"

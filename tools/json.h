@@ -26,4 +26,8 @@ struct json {
 /* Reads a text that is one value, which becomes the first of `values`. Returns false where it is not, with `due`. */
 bool read_json(struct json *json);
 
+/* Whether two values that hold no others are the same however they are spelled: strings by their characters, numbers as
+   numbers. Something stands after each, be it a byte 0. */
+bool same_json(struct word one, struct word other);
+
 #endif

@@ -63,7 +63,7 @@ int write_value(const struct options *options)
 {
     static uint8_t text[TEXT_MAX + 1], value[BW_PMD_VALUE_MAX];
     static uint32_t list[TEXT_MAX + 1], places[TEXT_MAX + 1];
-    struct numbers numbers = {list, places, 0};
+    struct numbers numbers = {list, places, 0, false};
     struct input input;
     uint32_t number;
     bw_answer answer;
@@ -79,6 +79,11 @@ int write_value(const struct options *options)
     answer = bw_pmd_write(number, list, numbers.count, value, sizeof value);
     if (answer.number != BW_DONE)
         return refuse_numbers(options, &input, &numbers, answer);
+    numbers.accepted = true;
+    if (options->json)
+        status = parse(options, kind_of(number), &input, &numbers);
+    if (status != ACCEPTED)
+        return status;
     if (!write_output(options->count > 2 ? options->operands[2] : "-", value, (size_t)answer.value, &input, 1))
         return TROUBLE;
     return ACCEPTED;

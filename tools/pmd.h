@@ -55,18 +55,27 @@ void print_words(FILE *to, const char *indent, const struct kind *kind, const ui
 void print_numbers(FILE *to, const char *indent, const uint32_t *numbers, size_t count);
 void print_json_members(FILE *to, const struct kind *kind, const uint32_t *numbers, size_t count);
 
+/* JSON members beside that of a field, by its form: what its numbers mean, but for PAIRS the closing parameters. */
+enum { BESIDE = 2 };
+extern const char *const beside[GROUP + 1][BESIDE];
+
+/* Prints what such a member says of numbers that are not refused. */
+void print_meaning(FILE *to, enum form form, size_t which, const uint32_t *numbers);
+
 /* A text as numbers, and where each stands: its line, or in JSON its value. */
 struct numbers {
     uint32_t *list;
     uint32_t *places;
     size_t count;
+    bool accepted; /* by the archive, so that each means something */
 };
 
 /* Reads what print_words prints for this kind, or with no kind bare numbers. Tells a bad line and returns REFUSED. The
    text has at most TEXT_MAX bytes. */
 int parse_numbers(const char *name, const struct kind *kind, const uint8_t *text, size_t length, struct numbers *numbers);
 
-/* The same for an object as `pmd read --json` prints it. */
+/* The same for an object as `pmd read --json` prints it. Reads it once more for numbers that are accepted, with what it
+   says of them in words: that must agree. */
 int parse_json(const char *name, const struct kind *kind, const uint8_t *text, size_t length, struct numbers *numbers);
 
 /* Tells that a number of the text that parse_json read last is reserved or too wide. Returns REFUSED. */

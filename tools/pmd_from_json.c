@@ -1,19 +1,15 @@
 /* A PMD value from the JSON that `pmd read --json` prints, with its members in any order. What says in words what a
-   number means may be left out, and is not read. */
+   number means may be left out. Where it stands it must agree, or whoever changed the word alone would get a value that
+   still means the old one. */
+#include <stdlib.h>
 #include <string.h>
 
 #include "exits.h"
 #include "hex.h"
 #include "json.h"
+#include "labels.h"
 #include "pmd.h"
 #include "refusals.h"
-
-/* Members beside that of the field itself, by its form. Of these the parameters of a closing pair alone are read. */
-static const char *const beside[GROUP + 1][2] = {
-    [SPEAKER_LAYOUT] = {"speakers"}, [LANGUAGE] = {"language"}, [OBJECT_CLASS] = {"class_name"},
-    [GAIN] = {"muted", "gain_db"}, [FRAME_RATE] = {"frames_per_second"}, [PROGRAM_CONFIG] = {"program"},
-    [NAME] = {"name"}, [PAIRS] = {"closing_parameters"}
-};
 
 static const struct field pair_fields[] = {
     {"presentation", "presentation", NUMBER, NULL},
@@ -87,7 +83,7 @@ static bool is_known(struct word name, const struct fields *fields)
 
         if (word_is(name, fields->list[i].key))
             return true;
-        for (size_t k = 0; k < 2; k++)
+        for (size_t k = 0; k < BESIDE; k++)
             if (more[k] != NULL && word_is(name, more[k]))
                 return true;
     }
@@ -109,6 +105,41 @@ static bool check_members(const struct source *source, size_t object, const stru
             return wrong(source, at, "a member that does not stand there already");
     }
     return true;
+}
+
+/* Whether a member, if it stands there, says just this. */
+static bool says(const struct source *source, size_t object, const char *name, const char *meaning, const char *decides)
+{
+    const size_t at = find(object, (struct word){name, strlen(name)});
+    char due[96];
+
+    if (at == 0 || same_json(values[at].text, (struct word){meaning, strlen(meaning)}))
+        return true;
+    snprintf(due, sizeof due, "a member that agrees with \"%s\", which decides, or none", decides);
+    return wrong(source, at, due);
+}
+
+/* Whether the members beside a field say what `pmd read --json` would say there. */
+static bool agrees(const struct source *source, size_t object, const struct field *field, const uint32_t *numbers)
+{
+    const char *const *names = beside[field->form];
+    bool good = true;
+
+    for (size_t i = 0; good && source->to->accepted && i < BESIDE && names[i] != NULL; i++) {
+        char *meaning = NULL;
+        size_t size;
+        FILE *to = open_memstream(&meaning, &size);
+
+        if (to != NULL) {
+            print_meaning(to, field->form, i, numbers);
+            fclose(to);
+        }
+        if (meaning == NULL)
+            exit(trouble(source->name, "there is no memory to compare its words with its numbers"));
+        good = says(source, object, names[i], meaning, field->key);
+        free(meaning);
+    }
+    return good;
 }
 
 /* The items of an array, each taken by `take`. */
@@ -199,6 +230,7 @@ static bool take_group(struct source *source, size_t at, const struct fields *gr
 static bool take_field(struct source *source, size_t object, const struct field *field)
 {
     const size_t at = need(source, object, field->key);
+    const uint32_t *numbers = source->to->list + source->to->count;
 
     if (at == 0)
         return false;
@@ -211,13 +243,13 @@ static bool take_field(struct source *source, size_t object, const struct field 
         push(source, at, 0);
         return true;
     case NAME:
-        return take_hex(source, at);
+        return take_hex(source, at) && agrees(source, object, field, numbers);
     case PAIRS:
         return take_pairs(source, object, at);
     case GROUP:
         return take_group(source, at, field->group);
     default:
-        return take_number(source, at);
+        return take_number(source, at) && agrees(source, object, field, numbers);
     }
 }
 
@@ -236,18 +268,18 @@ static bool take_record(struct source *source, size_t at)
     return take_fields(source, at, &source->kind->record);
 }
 
-/* Whether the whole says that it is of the kind that is to be written. Its name may be left out. */
+/* Whether the whole says that it is of the kind that is to be written. */
 static bool check_kind(const struct source *source)
 {
-    const size_t number = need(source, 0, "kind"), name = find(0, (struct word){"name", 4});
-    char expected[16];
+    const size_t at = need(source, 0, "kind");
+    char number[16], name[16], title[64];
 
-    snprintf(expected, sizeof expected, "%lu", (unsigned long)source->kind->number);
-    if (number == 0 || !word_is(values[number].text, expected))
-        return number != 0 && wrong(source, number, "the number of the kind that is to be written");
-    snprintf(expected, sizeof expected, "\"%s\"", source->kind->name);
-    return name == 0 || word_is(values[name].text, expected) ||
-           wrong(source, name, "the name of the kind that is to be written");
+    snprintf(number, sizeof number, "%lu", (unsigned long)source->kind->number);
+    snprintf(name, sizeof name, "\"%s\"", source->kind->name);
+    snprintf(title, sizeof title, "\"%s\"", kind_title(source->kind->number));
+    if (at == 0 || !word_is(values[at].text, number))
+        return at != 0 && wrong(source, at, "the number of the kind that is to be written");
+    return says(source, 0, "name", name, "kind") && says(source, 0, "title", title, "kind");
 }
 
 static bool take_whole(struct source *source)

@@ -3,16 +3,56 @@
 #include "pmd.h"
 #include "words.h"
 
-static void print_gain(FILE *to, uint32_t number)
+const char *const beside[GROUP + 1][BESIDE] = {
+    [SPEAKER_LAYOUT] = {"speakers"}, [LANGUAGE] = {"language"}, [OBJECT_CLASS] = {"class_name"},
+    [GAIN] = {"muted", "gain_db"}, [FRAME_RATE] = {"frames_per_second"}, [PROGRAM_CONFIG] = {"program"},
+    [NAME] = {"name"}, [PAIRS] = {"closing_parameters"}
+};
+
+/* Whether it is muted, or how many decibels it is. */
+static void print_gain(FILE *to, size_t which, uint32_t number)
 {
     const bw_gain_answer gain = bw_gain(number);
     const int half = (int)gain.half_db;
 
-    if (gain.muted)
-        fputs(",\"muted\":true,\"gain_db\":null", to);
+    if (which == 0)
+        fputs(gain.muted ? "true" : "false", to);
+    else if (gain.muted)
+        fputs("null", to);
     else
-        fprintf(to, ",\"muted\":false,\"gain_db\":%s%d.%d", half < 0 ? "-" : "", (half < 0 ? -half : half) / 2,
-                half % 2 != 0 ? 5 : 0);
+        fprintf(to, "%s%d.%d", half < 0 ? "-" : "", (half < 0 ? -half : half) / 2, half % 2 != 0 ? 5 : 0);
+}
+
+static void print_bytes(FILE *to, const uint32_t *numbers)
+{
+    uint8_t bytes[BW_PMD_VALUE_MAX];
+    size_t count = 0;
+
+    for (; numbers[count] != 0; count++)
+        bytes[count] = (uint8_t)numbers[count];
+    print_json_text(to, bytes, count);
+}
+
+void print_meaning(FILE *to, enum form form, size_t which, const uint32_t *numbers)
+{
+    const char *quote = form == GAIN || form == FRAME_RATE ? "" : "\"";
+
+    fputs(quote, to);
+    if (form == SPEAKER_LAYOUT)
+        fputs(speakers_word(*numbers), to);
+    if (form == LANGUAGE)
+        print_language(to, *numbers);
+    if (form == OBJECT_CLASS)
+        fputs(class_word(*numbers), to);
+    if (form == GAIN)
+        print_gain(to, which, *numbers);
+    if (form == FRAME_RATE)
+        fputs(frame_rate_word(*numbers), to);
+    if (form == PROGRAM_CONFIG)
+        fputs(program_word(*numbers), to);
+    if (form == NAME)
+        print_bytes(to, numbers);
+    fputs(quote, to);
 }
 
 static size_t print_elements(FILE *to, const struct field *field, const uint32_t *numbers)
@@ -28,15 +68,13 @@ static size_t print_elements(FILE *to, const struct field *field, const uint32_t
 
 static size_t print_text(FILE *to, const struct field *field, const uint32_t *numbers)
 {
-    uint8_t bytes[BW_PMD_VALUE_MAX];
     size_t at = 0;
 
+    fprintf(to, "\"%s\":", beside[NAME][0]);
+    print_meaning(to, NAME, 0, numbers);
+    fprintf(to, ",\"%s\":\"", field->key);
     for (; numbers[at] != 0; at++)
-        bytes[at] = (uint8_t)numbers[at];
-    fprintf(to, "\"%s\":\"", field->word);
-    print_json_text(to, bytes, at);
-    fprintf(to, "\",\"%s\":\"", field->key);
-    print_hex(to, bytes, at);
+        fprintf(to, "%02lX", (unsigned long)numbers[at]);
     putc('"', to);
     return at + 1;
 }
@@ -50,32 +88,21 @@ static size_t print_pairs(FILE *to, const struct field *field, const uint32_t *n
     for (; numbers[at] != 0; at += 2)
         fprintf(to, "%s{\"presentation\":%lu,\"parameters\":%lu}", at > 0 ? "," : "", (unsigned long)numbers[at],
                 (unsigned long)numbers[at + 1]);
-    fprintf(to, "],\"closing_parameters\":%lu", (unsigned long)numbers[at + 1]);
+    fprintf(to, "],\"%s\":%lu", beside[PAIRS][0], (unsigned long)numbers[at + 1]);
     return at + 2;
 }
 
 /* A field of one number. */
-static void print_one(FILE *to, const struct field *field, uint32_t number)
+static void print_one(FILE *to, const struct field *field, const uint32_t *number)
 {
     fprintf(to, "\"%s\":", field->key);
     if (field->form == YES_NO)
-        fputs(number == 1 ? "true" : "false", to);
+        fputs(*number == 1 ? "true" : "false", to);
     else
-        fprintf(to, "%lu", (unsigned long)number);
-    if (field->form == SPEAKER_LAYOUT)
-        fprintf(to, ",\"speakers\":\"%s\"", speakers_word(number));
-    if (field->form == OBJECT_CLASS)
-        fprintf(to, ",\"class_name\":\"%s\"", class_word(number));
-    if (field->form == FRAME_RATE)
-        fprintf(to, ",\"frames_per_second\":%s", frame_rate_word(number));
-    if (field->form == PROGRAM_CONFIG)
-        fprintf(to, ",\"program\":\"%s\"", program_word(number));
-    if (field->form == GAIN)
-        print_gain(to, number);
-    if (field->form == LANGUAGE) {
-        fputs(",\"language\":\"", to);
-        print_language(to, number);
-        putc('"', to);
+        fprintf(to, "%lu", (unsigned long)*number);
+    for (size_t i = 0; i < BESIDE && beside[field->form][i] != NULL; i++) {
+        fprintf(to, ",\"%s\":", beside[field->form][i]);
+        print_meaning(to, field->form, i, number);
     }
 }
 
@@ -104,7 +131,7 @@ static size_t print_field(FILE *to, const struct field *field, const uint32_t *n
     case GROUP:
         return print_group(to, field, numbers);
     default:
-        print_one(to, field, numbers[0]);
+        print_one(to, field, numbers);
         return 1;
     }
 }
