@@ -41,7 +41,7 @@ asNumber (X.Plain v) = v
 
 -- FIELDS IN A ROW
 
--- the field that the code has for a row
+-- which field of the definitions a field of a row is in the code
 abbrev pub fieldIn : row.Field → Field
 fieldIn W.Presentation = F.Presentation
 fieldIn W.SpeakerConfig = F.SpeakerConfig
@@ -123,7 +123,7 @@ shapeOf kind = record {
 
 -- THE STEPS OF A TURNAROUND
 
--- the field that the code has for a turnaround
+-- which field of the definitions a field of a turnaround is in the code
 abbrev pub turnIn : TurnField → Field
 turnIn T.Id = F.Turnaround
 turnIn T.Exists = F.Exists

@@ -1,5 +1,6 @@
 // Reads PMD values into lent numbers. A value is judged and counted in a first pass and stored in a second, so that a refusal changes nothing.
 use pmd::Named;
+use pmd::OVER;
 use pmd::PARAMETERS;
 use pmd::Shape;
 use pmd::TurnField;
@@ -107,7 +108,7 @@ fn count_turnarounds(s: &[u8]) -> Answer
     let mut n: usize = 0;
     let mut i: usize = 0;
     loop {
-        while i < 8 {
+        while i < OVER {
             let step = steps.all[i];
             let f = step.0;
             let w = step.1 as usize;
@@ -149,7 +150,7 @@ fn fill_turnarounds(s: &[u8], numbers: &mut [u32])
     let mut n: usize = 0;
     let mut i: usize = 0;
     loop {
-        while i < 8 {
+        while i < OVER {
             let step = steps.all[i];
             let f = step.0;
             let w = step.1 as usize;
@@ -202,6 +203,7 @@ pub fn pmd_read(kind: u32, value: &[u8], numbers: &mut [u32]) -> Answer
         return pmd::refused(Refusal::Big, 0);
     }
     let shape = pmd::shape_of(known);
+    // Turnarounds alone have no pieces.
     if shape.size == 0 {
         return read_turnarounds(value, &mut *numbers);
     }

@@ -2,6 +2,7 @@
 use bits::Pen;
 use pmd::Field;
 use pmd::Named;
+use pmd::OVER;
 use pmd::PARAMETERS;
 use pmd::Shape;
 use pmd::TurnField;
@@ -126,7 +127,7 @@ fn weigh_turnarounds(numbers: &[u32]) -> Answer
     let mut n: usize = 0;
     let mut i: usize = 0;
     loop {
-        while i < 8 {
+        while i < OVER {
             let step = steps.all[i];
             let f = step.0;
             let w = step.1 as usize;
@@ -174,7 +175,7 @@ fn put_turnarounds(numbers: &[u32], out: &mut [u8]) -> Answer
     let mut n: usize = 0;
     let mut i: usize = 0;
     loop {
-        while i < 8 {
+        while i < OVER {
             let step = steps.all[i];
             let f = step.0;
             let w = step.1 as usize;
@@ -220,6 +221,7 @@ pub fn pmd_write(kind: u32, numbers: &[u32], out: &mut [u8]) -> Answer
         return pmd::refused(Refusal::Kind, 0);
     };
     let shape = pmd::shape_of(known);
+    // Turnarounds alone have no pieces.
     if shape.size == 0 {
         return write_turnarounds(numbers, &mut *out);
     }
