@@ -103,6 +103,15 @@ longer again left v vs i p e =
     let w = width (opened again left) in
     ap length (s .whole) ∙ length-append (digits 2 w v) (s .rest) ∙ (let q : length (digits 2 w v) + length (s .rest) ≡ length (s .rest) + w = omega (arith, length-digits 2 w v) in q)
 
+-- where a flag of 0 leads
+first-passed : (v : ℕ) → eqb v 0 ≡ true → after (leftIn first) v ≡ leftIn second
+unfolding after leftIn
+first-passed v z = simp z
+
+second-passed : (v : ℕ) → eqb v 0 ≡ true → after (leftIn second) v ≡ leftIn over
+unfolding after leftIn
+second-passed v z = simp z
+
 tally : (s : Stage) (xs : List ℕ) (i : ℕ) (p : List ℕ) → writeFrom record' (leftIn s) xs i ≡ fine p → Tally s (length xs) (length p)
 unfolding leftIn flags Tally closed opened after width sure need manyPay
 tally over [] i p e = inl (record { r = 0; numbers = refl; bits = sym (ap length (write-end record' [] i p e .1)) })
@@ -115,13 +124,13 @@ tally first (v ∷ vs) i p e =
     let s = write-parted record' (leftIn first) v vs i p e in
     as-long first (length vs) (longer record' (leftIn first) v vs i p e)
     (split (eqb v 0)
-    (λ z. tally-zero first second (length vs) (length (s .rest)) refl (tally second vs (i + 1) (s .rest) (simp z at (s .from))))
+    (λ z. tally-zero first second (length vs) (length (s .rest)) refl (tally second vs (i + 1) (s .rest) (ap (λ (k : List Part). writeFrom record' k vs (i + 1)) (sym (first-passed v z)) ∙ s .from)))
     (λ z. inr (omega (arith, written-paid record' refl (omega arith) (drop 2 record') vs (i + 1) (s .rest) refl (simp z at (s .from))))))
 tally second (v ∷ vs) i p e =
     let s = write-parted record' (leftIn second) v vs i p e in
     as-long second (length vs) (longer record' (leftIn second) v vs i p e)
     (split (eqb v 0)
-    (λ z. tally-zero second over (length vs) (length (s .rest)) refl (tally over vs (i + 1) (s .rest) (simp z at (s .from))))
+    (λ z. tally-zero second over (length vs) (length (s .rest)) refl (tally over vs (i + 1) (s .rest) (ap (λ (k : List Part). writeFrom record' k vs (i + 1)) (sym (second-passed v z)) ∙ s .from)))
     (λ z. inr (omega (arith, written-paid record' refl (omega arith) (drop 5 record') vs (i + 1) (s .rest) refl (simp z at (s .from))))))
 
 -- BY THE KIND
