@@ -48,14 +48,12 @@ module _ (kind : ℕ) (s : List ℕ) {named : Named} (e : named ≡ kindOf kind)
         ∙ simp (le-ltb _ _ l) (sym (ap₂ (λ (again first : List Part). readFrom (suc (8 * length s)) again first (bits s) 0) (holds .again) (holds .first)))
 
 -- n numbers were counted
-module _ {read o : Outcome (List ℕ)} (e : read ≡ o) {counted : Answer} {n : ℕ} (c : counted ≡ answered length o) (done : counted ≡ A.Done n) where
-  pub counted-noroom : {before : List ℕ} {r : Answer} → length before < n → r ≡ A.Refused R.NoRoom 0 → Delivered (within (length before) read) before r before
-  counted-noroom l h = let x = done-was length c done in delivers-noroom (e ∙ x .1) (omega (arith, x .2)) h
+module _ (o : Outcome (List ℕ)) {counted : Answer} {n : ℕ} (c : counted ≡ answered length o) (done : counted ≡ A.Done n) where
+  pub counted-noroom : {before : List ℕ} {r : Answer} → length before < n → r ≡ A.Refused R.NoRoom 0 → Delivered (within (length before) o) before r before
+  counted-noroom l h = let x = done-was length c done in delivers-noroom (x .1) (omega (arith, x .2)) h
 
   pub counted-roomy : (room : ℕ) → n ≤ room → Roomy o room
   counted-roomy room l = let x = done-was length c done in record { list = x .0; is = x .1; fits = omega (arith, x .2) }
 
-  pub counted-all : {before after : List ℕ} → n ≤ length before → after ≡ lent before o → Delivered (within (length before) read) before (A.Done n) after
-  counted-all {before} l w =
-      let x = done-was length c done in
-      delivers-all (e ∙ x .1) (omega (arith, x .2)) (record { told = sym done ∙ c ∙ sym (ap (answered length) e); run = w ∙ sym (ap (lent before) e) })
+  pub counted-all : {before after : List ℕ} → n ≤ length before → after ≡ lent before o → Delivered (within (length before) o) before (A.Done n) after
+  counted-all l w = let x = done-was length c done in delivers-all (x .1) (omega (arith, x .2)) (record { told = sym done ∙ c; run = w })

@@ -98,6 +98,22 @@ fn fill(shape: Shape, s: &[u8], numbers: &mut [u32])
     }
 }
 
+// Reads a value of this shape as `pmd_read` does.
+fn read_row(shape: Shape, value: &[u8], numbers: &mut [u32]) -> Answer
+    requires { ⌜ (length (now value) ≤ 4096) × Walkable shape ⌝ }
+    ensures { λ r. ⌜ Delivered (within (length (now (numbers .entry))) (readShape shape (now (value .entry)))) (now (numbers .entry)) r (now (numbers .exit)) ⌝ }
+{
+    let counted = count(shape, value);
+    let Answer::Done(n) = counted else {
+        return counted;
+    };
+    if numbers.len() < n {
+        return pmd::refused(Refusal::NoRoom, 0);
+    }
+    fill(shape, value, &mut *numbers);
+    Answer::Done(n)
+}
+
 // How many fields the turnarounds of a value have, or what is wrong with them. A parameter set is any number of its bits.
 fn count_turnarounds(s: &[u8]) -> Answer
     requires { ⌜ length (now s) ≤ 4096 ⌝ }
@@ -204,16 +220,8 @@ pub fn pmd_read(kind: u32, value: &[u8], numbers: &mut [u32]) -> Answer
     }
     let shape = pmd::shape_of(known);
     // Turnarounds alone have no pieces.
-    if shape.size == 0 {
-        return read_turnarounds(value, &mut *numbers);
+    if 0 < shape.size {
+        return read_row(shape, value, &mut *numbers);
     }
-    let counted = count(shape, value);
-    let Answer::Done(n) = counted else {
-        return counted;
-    };
-    if numbers.len() < n {
-        return pmd::refused(Refusal::NoRoom, 0);
-    }
-    fill(shape, value, &mut *numbers);
-    Answer::Done(n)
+    read_turnarounds(value, &mut *numbers)
 }

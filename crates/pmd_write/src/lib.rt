@@ -117,6 +117,21 @@ fn put(shape: Shape, numbers: &[u32], out: &mut [u8]) -> Answer
     }
 }
 
+// Writes numbers as records of this shape as `pmd_write` does.
+fn write_row(shape: Shape, numbers: &[u32], out: &mut [u8]) -> Answer
+    requires { ⌜ Walkable shape ⌝ }
+    ensures { λ r. ⌜ Delivered (within (length (now (out .entry))) (within 4096 (packing (writeShape shape (now (numbers .entry)))))) (now (out .entry)) r (now (out .exit)) ⌝ }
+{
+    let weighed = weigh(shape, numbers);
+    let Answer::Done(total) = weighed else {
+        return weighed;
+    };
+    if MOST_BITS < total || out.len() < (total + 7) / 8 {
+        return pmd::refused(Refusal::NoRoom, 0);
+    }
+    put(shape, numbers, &mut *out)
+}
+
 // How many bits the numbers take as turnarounds, or what is wrong with them; a list that is too long for any count is not weighed, as in `weigh`.
 fn weigh_turnarounds(numbers: &[u32]) -> Answer
     ensures { λ r. ⌜ r ≡ answered (weight (now (numbers .entry))) (writeAll K.Etd (now (numbers .entry))) ⌝ }
@@ -222,15 +237,8 @@ pub fn pmd_write(kind: u32, numbers: &[u32], out: &mut [u8]) -> Answer
     };
     let shape = pmd::shape_of(known);
     // Turnarounds alone have no pieces.
-    if shape.size == 0 {
-        return write_turnarounds(numbers, &mut *out);
+    if 0 < shape.size {
+        return write_row(shape, numbers, &mut *out);
     }
-    let weighed = weigh(shape, numbers);
-    let Answer::Done(total) = weighed else {
-        return weighed;
-    };
-    if MOST_BITS < total || out.len() < (total + 7) / 8 {
-        return pmd::refused(Refusal::NoRoom, 0);
-    }
-    put(shape, numbers, &mut *out)
+    write_turnarounds(numbers, &mut *out)
 }
