@@ -9,7 +9,7 @@ use Rattle.pmd_write.proofs.pmd_write.Tie as tie
 
 -- a shape of some pieces is that of the kind
 held : (c : tie.Then1) → ShapeFor (c .before .before .before .before .known .given .0 .0) (c .before .before .shape-of .result)
-held c = shape-for (c .before .before .shape-of .ensures) (c .if1 .taken)
+held c = shape-for (c .before .before .shape-of .ensures) (omega (arith, c .if1 .taken))
 
 returns : tie.Need-returns
 returns c =
