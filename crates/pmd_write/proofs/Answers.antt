@@ -15,11 +15,11 @@ use Rattle.refusals.specs.declared.Answer.{Answer}
 use Rattle.refusals.specs.declared.Answer.the-variants as A
 use Rattle.refusals.proofs.Lent.{fine-within, none-within, refused-was, done-was}
 use Rattle.pmd.specs.declared.Kind.{Kind}
-use Rattle.pmd.specs.declared.Kind.the-variants as K
 use Rattle.pmd.specs.declared.Named.{Named}
 use Rattle.pmd.specs.declared.Named.the-variants as N
 use Rattle.pmd.specs.declared.Shape.{Shape}
-use Rattle.pmd.specs.Table.{Part, kindOf}
+use Rattle.pmd.specs.Table.{Part, recordOf, kindOf}
+use Rattle.pmd.specs.Records.{firstRecord}
 use Rattle.pmd.specs.Writing.{bytesOfBits, packed, packing, writeAll, writeAs, fieldsWritten}
 use Rattle.pmd.specs.Shapes.{Roomy}
 use Rattle.pmd.proofs.Packed.{length-packed}
@@ -39,14 +39,13 @@ module _ (kind : ℕ) (vs : List ℕ) {named : Named} (e : named ≡ kindOf kind
   unfolding writeAs
   write-unknown k = as-named k
 
-  module _ {known : Kind} (k : named ≡ N.Known known) where
-    pub write-turnaround : known ≡ K.Etd → fieldsWritten kind vs ≡ limited (writeAll K.Etd vs)
-    unfolding writeAs
-    write-turnaround is = as-named k ∙ ap (λ (of : Kind). limited (writeAll of vs)) is
+  pub write-known : {known : Kind} → named ≡ N.Known known → fieldsWritten kind vs ≡ limited (writeAll known vs)
+  unfolding writeAs
+  write-known k = as-named k
 
-    pub write-shape : {shape : Shape} → ShapeFor known shape → fieldsWritten kind vs ≡ limited (writeShape shape vs)
-    unfolding writeAs
-    write-shape holds = as-named k ∙ ap limited (sym (ap₂ (λ (again first : List Part). writeBy again first vs) (holds .again) (holds .first)))
+-- numbers are written alike by a kind and by its shape
+pub by-shape : {kind : Kind} {shape : Shape} → ShapeFor kind shape → (vs : List ℕ) → writeShape shape vs ≡ writeAll kind vs
+by-shape holds vs = ap₂ (λ (again first : List Part). writeBy again first vs) (holds .again) (holds .first)
 
 -- a weight that a value may have is that of the bits, and one that is too much is that of bits that are too many
 weight-is : (vs bs : List ℕ) (total : ℕ) → weight vs bs ≡ total → total ≤ 32768 → length bs ≡ total
@@ -58,9 +57,9 @@ weight-big vs bs total more e h =
     split (leb (length vs) 32768) (λ l. let same : length bs ≡ total = simp l at e in omega arith) (λ l. omega (arith, leb-false (length vs) 32768 l))
 
 -- the numbers were weighed
-module _ (again first : List Part) (vs : List ℕ) {weighed : Answer} (c : weighed ≡ answered (weight vs) (writeBy again first vs)) where
+module _ (kind : Kind) (vs : List ℕ) {weighed : Answer} (c : weighed ≡ answered (weight vs) (writeAll kind vs)) where
   abbrev value : Outcome (List ℕ)
-  value = limited (writeBy again first vs)
+  value = limited (writeAll kind vs)
 
   pub weighed-refused : {before : List ℕ} {why : Refusal} {place : ℕ} → weighed ≡ A.Refused why place → Delivered (within (length before) value) before weighed before
   unfolding andThen
@@ -71,11 +70,11 @@ module _ (again first : List Part) (vs : List ℕ) {weighed : Answer} (c : weigh
     unfolding andThen
     weighed-big l =
         let x = done-was (weight vs) c done in
-        let more = write-below again first vs 0 (x .0) (x .1) .1 in
+        let more = write-below (recordOf kind) (firstRecord kind) vs 0 (x .0) (x .1) .1 in
         delivers-none (ap limited (x .1) ∙ none-within 4096 (packed (x .0)) (omega (arith, length-packed (x .0), weight-big vs (x .0) total more (x .2) l)))
 
     module _ (small : total ≤ 32768) where
-      bytes : (bs : List ℕ) × (writeBy again first vs ≡ fine bs) × (length bs ≡ total)
+      bytes : (bs : List ℕ) × (writeAll kind vs ≡ fine bs) × (length bs ≡ total)
       bytes = let x = done-was (weight vs) c done in (x .0, x .1, weight-is vs (x .0) total (x .2) small)
 
       size : length (packed (bytes .0)) ≡ (total + 7) / 8
@@ -85,14 +84,14 @@ module _ (again first : List Part) (vs : List ℕ) {weighed : Answer} (c : weigh
       unfolding andThen
       all = ap limited (bytes .1) ∙ fine-within 4096 (packed (bytes .0)) (omega (arith, size))
 
-      pub weighed-roomy : (room : ℕ) → (total + 7) / 8 ≤ room → Roomy (writeBy again first vs) (8 * room)
+      pub weighed-roomy : (room : ℕ) → (total + 7) / 8 ≤ room → Roomy (writeAll kind vs) (8 * room)
       weighed-roomy room l = let x = bytes in record { list = x .0; is = x .1; fits = omega (arith, x .2) }
 
       module _ {before : List ℕ} {r : Answer} where
         pub weighed-noroom : length before < (total + 7) / 8 → r ≡ A.Refused R.NoRoom 0 → Delivered (within (length before) value) before r before
         weighed-noroom l h = delivers-noroom all (omega (arith, size)) h
 
-        pub weighed-all : {after : List ℕ} → (total + 7) / 8 ≤ length before → Delivered (packing (writeBy again first vs)) before r after → Delivered (within (length before) value) before r after
+        pub weighed-all : {after : List ℕ} → (total + 7) / 8 ≤ length before → Delivered (packing (writeAll kind vs)) before r after → Delivered (within (length before) value) before r after
         unfolding andThen
         weighed-all {after} l d =
             delivers-all all (omega (arith, size)) (subst (λ (p : Outcome (List ℕ)). Delivered p before r after) (ap packing (bytes .1) ∙ sym all) d)

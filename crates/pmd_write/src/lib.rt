@@ -1,6 +1,7 @@
 // Writes lists of numbers as PMD values. A list is judged and weighed in a first pass and put in a second, so that a refusal changes nothing.
 use bits::Pen;
 use pmd::Field;
+use pmd::Kind;
 use pmd::Named;
 use pmd::OVER;
 use pmd::PARAMETERS;
@@ -19,14 +20,38 @@ ghost use Rattle.pmd.specs.declared.Kind.the-variants as K;
 ghost use Rattle.pmd.specs.Writing.{packing, writeAll, fieldsWritten};
 ghost use Rattle.pmd.specs.Records.{fits};
 ghost use Rattle.pmd.specs.Shapes.{fieldIn, turnIn, Walkable, Roomy};
-ghost use Rattle.pmd_write.specs.ByShape.{writeShape, weight};
+ghost use Rattle.pmd_write.specs.ByShape.{anyButZero, writeShape, weight};
 
-// Whether a field of w bits takes the number v.
+// Whether a field may hold every number but perhaps 0.
+fn any_but_zero(f: Field) -> bool
+    ensures { λ r. ⌜ r ≡ anyButZero f ⌝ }
+{
+    match f {
+        Field::Presentation => true,
+        Field::SpeakerConfig => false,
+        Field::Langcod => false,
+        Field::Element => true,
+        Field::Listed => true,
+        Field::Class => false,
+        Field::Dynamic => true,
+        Field::Coordinate => true,
+        Field::Size => true,
+        Field::Size3d => true,
+        Field::Diverge => true,
+        Field::Source => true,
+        Field::Gain => true,
+        Field::SampleTime => true,
+        Field::Substream => true,
+        Field::Byte => true,
+    }
+}
+
+// Whether a field of w bits takes the number v. Most numbers are other than 0 and stand in such a field; they need no look at the field's own rule.
 fn takes(f: Field, w: usize, v: u32) -> bool
     requires { ⌜ w ≡ widthOf (fieldIn f) ⌝ }
     ensures { λ r. ⌜ r ≡ fits (fieldIn f) v ⌝ }
 {
-    v < 1 << w && pmd::holds(pmd::value_of(f, v))
+    v < 1 << w && (v != 0 && any_but_zero(f) || pmd::holds(pmd::value_of(f, v)))
 }
 
 // The same of a turnaround's field.
@@ -117,21 +142,6 @@ fn put(shape: Shape, numbers: &[u32], out: &mut [u8]) -> Answer
     }
 }
 
-// Writes numbers as records of this shape as `pmd_write` does.
-fn write_row(shape: Shape, numbers: &[u32], out: &mut [u8]) -> Answer
-    requires { ⌜ Walkable shape ⌝ }
-    ensures { λ r. ⌜ Delivered (within (length (now (out .entry))) (within 4096 (packing (writeShape shape (now (numbers .entry)))))) (now (out .entry)) r (now (out .exit)) ⌝ }
-{
-    let weighed = weigh(shape, numbers);
-    let Answer::Done(total) = weighed else {
-        return weighed;
-    };
-    if MOST_BITS < total || out.len() < (total + 7) / 8 {
-        return pmd::refused(Refusal::NoRoom, 0);
-    }
-    put(shape, numbers, &mut *out)
-}
-
 // How many bits the numbers take as turnarounds, or what is wrong with them; a list that is too long for any count is not weighed, as in `weigh`.
 fn weigh_turnarounds(numbers: &[u32]) -> Answer
     ensures { λ r. ⌜ r ≡ answered (weight (now (numbers .entry))) (writeAll K.Etd (now (numbers .entry))) ⌝ }
@@ -213,16 +223,26 @@ fn put_turnarounds(numbers: &[u32], out: &mut [u8]) -> Answer
     }
 }
 
-// Writes turnarounds as `pmd_write` does.
-fn write_turnarounds(numbers: &[u32], out: &mut [u8]) -> Answer
-    ensures { λ r. ⌜ Delivered (within (length (now (out .entry))) (within 4096 (packing (writeAll K.Etd (now (numbers .entry)))))) (now (out .entry)) r (now (out .exit)) ⌝ }
+// How many bits the numbers take as a value of this kind, or what is wrong with them. Turnarounds alone have no pieces.
+fn weigh_as(kind: Kind, numbers: &[u32]) -> Answer
+    ensures { λ r. ⌜ r ≡ answered (weight (now (numbers .entry))) (writeAll kind (now (numbers .entry))) ⌝ }
 {
-    let weighed = weigh_turnarounds(numbers);
-    let Answer::Done(total) = weighed else {
-        return weighed;
-    };
-    if MOST_BITS < total || out.len() < (total + 7) / 8 {
-        return pmd::refused(Refusal::NoRoom, 0);
+    let shape = pmd::shape_of(kind);
+    if 0 < shape.size {
+        return weigh(shape, numbers);
+    }
+    weigh_turnarounds(numbers)
+}
+
+// Puts the numbers of a value of this kind that were weighed and have room, and answers how many bytes they are. The shape is made anew: one that is
+// handed on is copied, and its loops were slower.
+fn put_as(kind: Kind, numbers: &[u32], out: &mut [u8]) -> Answer
+    requires { ⌜ Roomy (writeAll kind (now numbers)) (8 * length (now out)) ⌝ }
+    ensures { λ r. ⌜ Delivered (packing (writeAll kind (now (numbers .entry)))) (now (out .entry)) r (now (out .exit)) ⌝ }
+{
+    let shape = pmd::shape_of(kind);
+    if 0 < shape.size {
+        return put(shape, numbers, &mut *out);
     }
     put_turnarounds(numbers, &mut *out)
 }
@@ -235,10 +255,12 @@ pub fn pmd_write(kind: u32, numbers: &[u32], out: &mut [u8]) -> Answer
     let Named::Known(known) = pmd::kind_of(kind) else {
         return pmd::refused(Refusal::Kind, 0);
     };
-    let shape = pmd::shape_of(known);
-    // Turnarounds alone have no pieces.
-    if 0 < shape.size {
-        return write_row(shape, numbers, &mut *out);
+    let weighed = weigh_as(known, numbers);
+    let Answer::Done(total) = weighed else {
+        return weighed;
+    };
+    if MOST_BITS < total || out.len() < (total + 7) / 8 {
+        return pmd::refused(Refusal::NoRoom, 0);
     }
-    write_turnarounds(numbers, &mut *out)
+    put_as(known, numbers, &mut *out)
 }
