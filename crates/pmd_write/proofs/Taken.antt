@@ -29,23 +29,23 @@ module _ {w : ℕ} (f : Field) (wide : w ≡ widthOf f) where
   pub too-wide : {v : ℕ} → 1 * 2 ^ w % 2 ^ 32 ≤ v → false ≡ fits f v
   too-wide {v} h = simp (ap (ltb v) (sym bound) ∙ le-ltb _ _ h)
 
-free-holds : (f : row.Field) (v : ℕ) → (v ≡ 0 → ⊥) → anyButZero f ≡ true → mayHold (typed (fieldIn f) v) ≡ true
-free-holds W.Presentation v some e = simp (ne-eqb v 0 some)
-free-holds W.SpeakerConfig v some e = absurd-eq (cc)
-free-holds W.Langcod v some e = absurd-eq (cc)
-free-holds W.Element v some e = simp (ne-eqb v 0 some)
-free-holds W.Listed v some e = simp (ne-eqb v 0 some)
-free-holds W.Class v some e = absurd-eq (cc)
-free-holds W.Dynamic v some e = refl
-free-holds W.Coordinate v some e = simp (ne-eqb v 0 some)
-free-holds W.Size v some e = refl
-free-holds W.Size3d v some e = refl
-free-holds W.Diverge v some e = refl
-free-holds W.Source v some e = refl
-free-holds W.Gain v some e = refl
-free-holds W.SampleTime v some e = refl
-free-holds W.Substream v some e = simp (ne-eqb v 0 some)
-free-holds W.Byte v some e = refl
+any-holds : (f : row.Field) (v : ℕ) → (v ≡ 0 → ⊥) → anyButZero f ≡ true → mayHold (typed (fieldIn f) v) ≡ true
+any-holds W.Presentation v some e = simp (ne-eqb v 0 some)
+any-holds W.SpeakerConfig v some e = absurd-eq (cc)
+any-holds W.Langcod v some e = absurd-eq (cc)
+any-holds W.Element v some e = simp (ne-eqb v 0 some)
+any-holds W.Listed v some e = simp (ne-eqb v 0 some)
+any-holds W.Class v some e = absurd-eq (cc)
+any-holds W.Dynamic v some e = refl
+any-holds W.Coordinate v some e = simp (ne-eqb v 0 some)
+any-holds W.Size v some e = refl
+any-holds W.Size3d v some e = refl
+any-holds W.Diverge v some e = refl
+any-holds W.Source v some e = refl
+any-holds W.Gain v some e = refl
+any-holds W.SampleTime v some e = refl
+any-holds W.Substream v some e = simp (ne-eqb v 0 some)
+any-holds W.Byte v some e = refl
 
-pub taken-free : {w v : ℕ} (f : row.Field) (wide : w ≡ widthOf (fieldIn f)) → v < 1 * 2 ^ w % 2 ^ 32 → (v ≡ 0 → ⊥) → anyButZero f ≡ true → true ≡ fits (fieldIn f) v
-taken-free {v = v} f wide h some free = taken (fieldIn f) wide h (sym (free-holds f v some free)) refl
+pub taken-any : {w v : ℕ} (f : row.Field) (wide : w ≡ widthOf (fieldIn f)) → v < 1 * 2 ^ w % 2 ^ 32 → (v ≡ 0 → ⊥) → anyButZero f ≡ true → true ≡ fits (fieldIn f) v
+taken-any {v = v} f wide h some any = taken (fieldIn f) wide h (sym (any-holds f v some any)) refl

@@ -234,8 +234,8 @@ fn weigh_as(kind: Kind, numbers: &[u32]) -> Answer
     weigh_turnarounds(numbers)
 }
 
-// Puts the numbers of a value of this kind that were weighed and have room, and answers how many bytes they are. The shape is made anew: one that is
-// handed on is copied, and its loops were slower.
+// Puts the numbers of a value of this kind that were weighed and have room, and answers how many bytes they are. The shape is made anew: one that
+// `weigh_as` hands on is copied, and the loops over it are slower.
 fn put_as(kind: Kind, numbers: &[u32], out: &mut [u8]) -> Answer
     requires { ⌜ Roomy (writeAll kind (now numbers)) (8 * length (now out)) ⌝ }
     ensures { λ r. ⌜ Delivered (packing (writeAll kind (now (numbers .entry)))) (now (out .entry)) r (now (out .exit)) ⌝ }

@@ -8,7 +8,7 @@ use borrow.Author.Tests.{le-ltb, eq-eqb}
 use Rattle.runs.proofs.Cases.{absurd-eq}
 use Rattle.pmd.specs.Shapes.{fieldIn}
 use Rattle.pmd.proofs.Fields.{narrow}
-use Rattle.pmd_write.proofs.Taken.{taken, taken-free, too-wide}
+use Rattle.pmd_write.proofs.Taken.{taken, taken-any, too-wide}
 use Rattle.pmd_write.proofs.takes.Statement.{statement}
 use Rattle.pmd_write.proofs.takes.Tie as tie
 
@@ -16,7 +16,7 @@ returns : tie.Need-returns
 returns c =
     let s = c .before .before .before in
     ⊎-elim
-    (λ w. c .if3 .taken ∙ taken-free (s .args .f) (s .pre) (c .before .before .if1 .taken) (w .0 .taken) (sym (w .1 .ensures) ∙ sym (w .2) ∙ c .if3 .taken))
+    (λ w. c .if3 .taken ∙ taken-any (s .args .f) (s .pre) (c .before .before .if1 .taken) (w .0 .taken) (sym (w .1 .ensures) ∙ sym (w .2) ∙ c .if3 .taken))
     (λ w. let off : true ≡ false = sym (c .if3 .taken) ∙ w .1 ∙ ap not (eq-eqb _ _ (w .0 .left)) in absurd-eq (cc))
     (c .before .if2 .came)
 
