@@ -58,9 +58,9 @@ extern "C" {
 
 /* The version of this header and of the library beside it; docs/VERSIONS.md says what its numbers tell. */
 #define BW_VERSION_MAJOR 0
-#define BW_VERSION_MINOR 4
+#define BW_VERSION_MINOR 5
 #define BW_VERSION_PATCH 0
-#define BW_VERSION "0.4.0"
+#define BW_VERSION "0.5.0"
 #define BW_VERSION_NUMBER (BW_VERSION_MAJOR * 10000 + BW_VERSION_MINOR * 100 + BW_VERSION_PATCH)
 
 /*
@@ -254,8 +254,8 @@ enum bw_kind {
  * no numbers.
  *
  * Refused as FIELD: a presentation, element, substream or turnaround 0 (but the one that closes a list); x, y or z 0;
- * speaker_config 7 to 28; class 7 to 15; a langcod whose first two groups of 5 bits are not 1 to 27, or whose third
- * is above 27; frame_rate 0 and 6 to 15; pgmconfig 24 to 31. Parameters are any of 0 to 255.
+ * speaker_config 7 to 28; class 7 to 15; a langcod whose first two groups of 5 bits are not 1 to 26, or whose third
+ * is above 26; frame_rate 0 and 6 to 15; pgmconfig 24 to 31. Parameters are any of 0 to 255.
  *
  * Success counts the numbers written, BW_PMD_NUMBERS_MAX at most. Numbers after them have not changed.
  *

@@ -192,6 +192,8 @@ make_values() {
         'presentation 3 language de name "quote \" slash \\ tab \x09 bell \x07 bare \xFF escape \x1B[31m"'
     save values/refused-bits.value "${ESN%00}"
     save values/refused-field.value "$(bits 9:1 5:7 15:5568 12:0)"
+    # shellcheck disable=SC2046
+    save values/refused-letter.value "$(bits 9:1 15:$((5 << 10 | 27 << 5)) $(name 'Main mix'))"
     save values/refused-pad.value 141001
     # shellcheck disable=SC2046
     save values/refused-rate.value "$(bits 8:1 1:1 4:6 $(pairs 5:9 0:3) 1:0)"

@@ -66,11 +66,11 @@ static int show(struct found *found, const struct options *options, const char *
 {
     static uint32_t numbers[BW_PMD_NUMBERS_MAX];
     const struct item *item = found->item;
+    const uint8_t *value = found->pack->bytes + item->value;
     char about[PATH_MAX + 64];
 
     found->numbers = numbers;
-    found->answer =
-        bw_pmd_read(found->label->kind, found->pack->bytes + item->value, item->length, numbers, BW_PMD_NUMBERS_MAX);
+    found->answer = bw_pmd_read(found->label->kind, value, item->length, numbers, BW_PMD_NUMBERS_MAX);
     if (options->json)
         print_found_json(found, first);
     else
@@ -78,7 +78,7 @@ static int show(struct found *found, const struct options *options, const char *
     if (found->answer.number == BW_DONE || found->label->kind == 0)
         return ACCEPTED;
     snprintf(about, sizeof about, "%s: payload at byte %lu", name, (unsigned long)item->start);
-    return refuse(about, found->answer, "bit");
+    return refuse_value(about, found->label->kind, value, item->length, found->answer);
 }
 
 int find_values(const struct options *options)

@@ -28,7 +28,7 @@ int read_value(const struct options *options)
         return TROUBLE;
     answer = bw_pmd_read(number, value.bytes, value.length, numbers, BW_PMD_NUMBERS_MAX);
     if (answer.number != BW_DONE)
-        return refuse(value.name, answer, answer.number == BW_KIND || answer.number == BW_BIG ? "byte" : "bit");
+        return refuse_value(value.name, number, value.bytes, value.length, answer);
     if (options->numbers)
         print_numbers(stdout, "", numbers, (size_t)answer.value);
     else if (options->json)
@@ -49,13 +49,20 @@ static int parse(const struct options *options, const struct kind *kind, const s
 }
 
 /* The archive counts numbers; whoever wrote the fields in words counts lines. */
-static int refuse_numbers(const struct options *options, const struct input *text, const struct numbers *numbers,
-                          bw_answer answer)
+static int refuse_numbers(const struct options *options, uint32_t kind, const struct input *text,
+                          const struct numbers *numbers, bw_answer answer)
 {
-    if (options->numbers || answer.number != BW_FIELD || answer.value >= numbers->count)
+    const bool field = answer.number == BW_FIELD && answer.value < numbers->count;
+    const bool is_27 = field && list_refused_for_27(kind, numbers, answer);
+
+    if (options->json && field)
+        return refuse_json(text->name, text->bytes, numbers, answer.value,
+                           is_27 ? "a langcod without 27, which is no letter's code,"
+                                 : "a number that is not reserved and fits its field");
+    if (options->numbers && is_27)
+        return refuse_because(text->name, answer, "number", no_letter);
+    if (options->numbers || !field)
         return refuse(text->name, answer, "number");
-    if (options->json)
-        return refuse_json(text->name, text->bytes, numbers, answer.value);
     return refuse_line(text->name, numbers->places[answer.value], answer.number, refusal_sentence(answer.number));
 }
 
@@ -78,7 +85,7 @@ int write_value(const struct options *options)
         return status;
     answer = bw_pmd_write(number, list, numbers.count, value, sizeof value);
     if (answer.number != BW_DONE)
-        return refuse_numbers(options, &input, &numbers, answer);
+        return refuse_numbers(options, number, &input, &numbers, answer);
     numbers.accepted = true;
     if (options->json)
         status = parse(options, kind_of(number), &input, &numbers);

@@ -78,7 +78,14 @@ int parse_numbers(const char *name, const struct kind *kind, const uint8_t *text
    says of them in words: that must agree. */
 int parse_json(const char *name, const struct kind *kind, const uint8_t *text, size_t length, struct numbers *numbers);
 
-/* Tells that a number of the text that parse_json read last is reserved or too wide. Returns REFUSED. */
-int refuse_json(const char *name, const uint8_t *text, const struct numbers *numbers, size_t at);
+/* Tells that a number of the text that parse_json read last stands where another one is due. Returns REFUSED. */
+int refuse_json(const char *name, const uint8_t *text, const struct numbers *numbers, size_t at, const char *due);
+
+/* Tells that a value is refused. Returns REFUSED. */
+int refuse_value(const char *name, uint32_t kind, const uint8_t *value, size_t length, bw_answer answer);
+
+/* Whether a list is refused, as FIELD, for a code 27 of a language, and the sentence that says why. */
+bool list_refused_for_27(uint32_t kind, const struct numbers *numbers, bw_answer answer);
+extern const char no_letter[];
 
 #endif

@@ -316,10 +316,10 @@ int parse_json(const char *name, const struct kind *kind, const uint8_t *text, s
     return REFUSED;
 }
 
-int refuse_json(const char *name, const uint8_t *text, const struct numbers *numbers, size_t at)
+int refuse_json(const char *name, const uint8_t *text, const struct numbers *numbers, size_t at, const char *due)
 {
     const struct source source = {name, (const char *)text, NULL, NULL};
 
-    wrong(&source, numbers->places[at], "a number that is not reserved and fits its field");
+    wrong(&source, numbers->places[at], due);
     return REFUSED;
 }

@@ -178,7 +178,7 @@ static bool take_field(struct parse *parse, const struct field *field)
     case SPEAKER_LAYOUT:
         return take(parse, read_speakers, "a speaker layout, such as 5.1.4 or not-indicated,");
     case LANGUAGE:
-        return take(parse, read_language, "a language of two or three small letters");
+        return take(parse, read_language, "a language of two or three small letters, a to z,");
     case OBJECT_CLASS:
         return take(parse, read_class, "an object class, such as dialog or generic,");
     case GAIN:

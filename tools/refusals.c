@@ -47,18 +47,21 @@ static void begin_refusal(const char *name, uint64_t number, const char *unit, u
             (unsigned long long)place);
 }
 
-int refuse(const char *name, bw_answer answer, const char *unit)
+int refuse_because(const char *name, bw_answer answer, const char *unit, const char *sentence)
 {
     begin_refusal(name, answer.number, unit, answer.value);
-    fprintf(stderr, "%s\n", refusal_sentence(answer.number));
+    fprintf(stderr, "%s\n", sentence);
     return REFUSED;
+}
+
+int refuse(const char *name, bw_answer answer, const char *unit)
+{
+    return refuse_because(name, answer, unit, refusal_sentence(answer.number));
 }
 
 int refuse_line(const char *name, size_t line, uint64_t number, const char *sentence)
 {
-    begin_refusal(name, number, "line", line);
-    fprintf(stderr, "%s\n", sentence);
-    return REFUSED;
+    return refuse_because(name, (bw_answer){number, line}, "line", sentence);
 }
 
 int refuse_word(const char *name, size_t line, const char *word, size_t length, const char *due)

@@ -10,7 +10,10 @@
    Returns REFUSED. */
 int refuse(const char *name, bw_answer answer, const char *unit);
 
-/* The same for a line of a text, with a sentence that fits the case. Returns REFUSED. */
+/* The same with a sentence that fits the case. Returns REFUSED. */
+int refuse_because(const char *name, bw_answer answer, const char *unit, const char *sentence);
+
+/* The same for a line of a text. Returns REFUSED. */
 int refuse_line(const char *name, size_t line, uint64_t number, const char *sentence);
 
 /* The same for a line of PMD fields where something else was due than the word that stands there: FIELD, or BITS where

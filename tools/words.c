@@ -1,7 +1,6 @@
 #include "words.h"
 
 #include <stdlib.h>
-#include <string.h>
 
 #include "ballastwren.h"
 
@@ -40,9 +39,7 @@ enum {
     CLASSES = sizeof classes / sizeof classes[0],
     FRAME_RATES = sizeof frame_rates / sizeof frame_rates[0],
     PROGRAMS = sizeof programs / sizeof programs[0],
-    GAINS = 64,   /* values of a gain field */
-    LETTERS = 26,
-    LAST_CODE = 27
+    GAINS = 64 /* values of a gain field */
 };
 
 static const char *word_of(const struct entry *entries, size_t count, uint32_t number)
@@ -108,31 +105,18 @@ void print_language(FILE *to, uint32_t langcod)
     for (int shift = 10; shift >= 0; shift -= 5) {
         const uint32_t code = langcod >> shift & 31;
 
-        if (code > LETTERS)
-            fprintf(to, "(%lu)", (unsigned long)code);
-        else if (code > 0)
+        if (code > 0)
             putc((int)('a' + code - 1), to);
     }
 }
 
-/* The code at the front of what is left of a language, 0 if there is none. */
+/* The code of the letter at the front of what is left of a language, 0 if there is none. */
 static uint32_t take_code(struct word *left)
 {
-    static const char last[] = "(27)";
-    const size_t size = sizeof last - 1;
-    uint32_t code = 0;
-    size_t taken = 1;
-
-    if (left->length >= size && memcmp(left->start, last, size) == 0) {
-        code = LAST_CODE;
-        taken = size;
-    } else if (left->length > 0 && left->start[0] >= 'a' && left->start[0] <= 'z')
-        code = (uint32_t)(left->start[0] - 'a' + 1);
-    if (code > 0) {
-        left->start += taken;
-        left->length -= taken;
-    }
-    return code;
+    if (left->length == 0 || left->start[0] < 'a' || left->start[0] > 'z')
+        return 0;
+    left->length--;
+    return (uint32_t)(*left->start++ - 'a' + 1);
 }
 
 bool read_language(struct word word, uint32_t *langcod)

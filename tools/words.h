@@ -20,7 +20,7 @@ const char *program_word(uint32_t number);
 bool read_frame_rate(struct word word, uint32_t *number);
 bool read_program(struct word word, uint32_t *number);
 
-/* The two or three letters of a langcod by Table 1. Code 27, which the table counts but which is no letter, is "(27)". */
+/* The two or three small letters of a langcod by Table 1. */
 void print_language(FILE *to, uint32_t langcod);
 bool read_language(struct word word, uint32_t *langcod);
 

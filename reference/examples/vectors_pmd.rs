@@ -51,8 +51,8 @@ const PRESENTATION: Field = field(9, &[1, 511, 256], &[0]);
 const SPEAKER_CONFIG: Field = field(5, &[0, 6, 29, 31], &[7, 28]);
 const LANGCOD: Field = field(
     15,
-    &[groups(5, 14, 0), groups(1, 1, 1), groups(27, 27, 27), groups(27, 1, 0)],
-    &[groups(0, 1, 1), groups(1, 0, 1), groups(28, 1, 1), groups(1, 28, 1), groups(1, 1, 28), 0],
+    &[groups(5, 14, 0), groups(1, 1, 1), groups(26, 26, 26), groups(26, 1, 0)],
+    &[groups(0, 1, 1), groups(1, 0, 1), groups(27, 1, 1), groups(1, 27, 1), groups(1, 1, 27), 0],
 );
 const ELEMENT: Field = field(12, &[1, 4095, 2048], &[0]);
 const ELEMENTS: Field = until_zero(12, &[4095, 1, 2048]);

@@ -137,9 +137,9 @@ impl Field {
     }
 }
 
-/// Three groups of five bits, each 1 to 27; only the third may be 0. What is too wide for a langcod
-/// has more than 27 before its last two groups.
+/// Three groups of five bits, each 1 to 26 for a to z; only the third may be 0. What is too wide for
+/// a langcod has more than 26 before its last two groups.
 fn is_langcod(number: u32) -> bool {
     let (first, second, third) = (number >> 10, number >> 5 & 31, number & 31);
-    (1..=27).contains(&first) && (1..=27).contains(&second) && third <= 27
+    (1..=26).contains(&first) && (1..=26).contains(&second) && third <= 26
 }

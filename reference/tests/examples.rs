@@ -745,14 +745,17 @@ fn code_is(reserved: bool, value: &[u8], place: usize) {
 
 #[test]
 fn pmd_langcods() {
-    // Groups of 1 to 27, only the third may be 0; the place is that of the whole field.
+    // Groups of 1 to 26, only the third may be 0; the place is that of the whole field.
     let lang = |a: u32, b: u32, c: u32| a << 10 | b << 5 | c;
-    for good in [lang(1, 1, 0), lang(27, 27, 27), 5568] {
+    for good in [lang(1, 1, 0), lang(26, 26, 26), 5568] {
         let mut out = [0; 4];
         assert_eq!(pmd_write(2, &[1, good, 0], &mut out), Ok(4));
         assert_eq!(pmd_read(2, &out, &mut [0; 3]), Ok(3));
     }
-    for (a, b, c) in [(0, 1, 1), (1, 0, 0), (28, 1, 1), (1, 31, 1), (1, 1, 28)] {
+    let outside = [27, 28, 31]
+        .into_iter()
+        .flat_map(|n| [(n, 1, 1), (1, n, 1), (1, 1, n)]);
+    for (a, b, c) in outside.chain([(0, 1, 1), (1, 0, 0), (27, 27, 27)]) {
         let bad = lang(a, b, c);
         pmd_write_refused(2, &[1, bad, 0], Reason::Field, 1);
         let value = [0x00, 0x80 | (bad >> 8) as u8, bad as u8, 0];
@@ -826,7 +829,7 @@ fn pmd_pads_and_room() {
 fn pmd_round_trips() {
     let heads: [(u32, &[u32], u32); 4] = [
         (1, &[511, 31, 5568], 4095),
-        (2, &[257, 27 << 10 | 1 << 5], 255),
+        (2, &[257, 26 << 10 | 1 << 5], 255),
         (5, &[4095], 255),
         (6, &[9], 255),
     ];

@@ -138,7 +138,7 @@ fn join(numbers: &[u32]) -> String {
 
 #[test]
 fn requests() {
-    run("2026-01.tsv");
+    run("2026-02.tsv");
 }
 
 #[test]

@@ -97,6 +97,10 @@ for name in '"4"' '"4100"' '"4 "' '"4g"' '"\\u0041"' 65 '[]' null; do
 done
 check 'pmd write --json: element 0' wrong "*: '0' stands where an element id*" APD \
     '{"kind":1,"records":[{"presentation":1,"speaker_config":4,"langcod":5568,"elements":[1,0]}]}'
+for langcod in 28506 27514 27483; do
+    check "pmd write --json: 27 in langcod $langcod" wrong "*: '*langcod*$langcod' stands where a langcod without 27, which is no letter's code, is due" APN \
+        "{\"kind\":2,\"records\":[{\"presentation\":1,\"langcod\":$langcod,\"name_hex\":\"\"}]}"
+done
 check 'pmd write --json: a number for true or false' wrong '*: *dynamic*1* stands where true or false is due' AOD \
     '{"kind":3,"records":[{"element":2,"class":0,"dynamic":1,"x":512,"y":1023,"z":1,"size":0,"size_3d":false,"diverge":false,"source":3,"gain":51}]}'
 

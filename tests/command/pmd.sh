@@ -33,6 +33,28 @@ bytes 0147000000 >"$T/program" && bytes 070000 >"$T/zero" && bytes 018800 >"$T/c
 check 'pmd read: FIELD, a program' gives 1 '' '*FIELD (17) at bit 14: *' "$BW" pmd read ETD "$T/program"
 check 'pmd read: FIELD, a turnaround 0' gives 1 '' '*FIELD (17) at bit 10: *' "$BW" pmd read ETD "$T/zero"
 check 'pmd read: BITS, a closing pair without parameters' gives 1 '' '*BITS (16) at bit 22: *' "$BW" pmd read ETD "$T/closing"
+
+# A code 27 is told in words, in each of the three groups, for a record that is not the first, and for no other field.
+no_letter='its language has a code 27, which is no letter: 1 to 26 are a to z; versions before 0.5.0 took 27 too'
+# reserved WANT KIND HEX: a value that is refused as FIELD.
+reserved() { bytes "$3" >"$T/value" && gives 1 '' "ballastwren: $T/value: refused: FIELD (17) $1" "$BW" pmd read "$2" "$T/value"; }
+check 'pmd read: 27, the sample' gives 1 '' "*: FIELD (17) at bit 9: $no_letter" "$BW" pmd read APN "$V/refused-letter.value"
+for value in 00EF5A00 00EB7A00 00EB5B00 00EF7B00 00876000; do
+    check "pmd read: 27 in the language of name $value" reserved "at bit 9: $no_letter" APN $value
+done
+for value in 00836E000000 0080BB000000 0080AED80000; do
+    check "pmd read: 27 in the language of presentation $value" reserved "at bit 14: $no_letter" APD $value
+done
+check 'pmd read: 27 in the second language' reserved "at bit 49: $no_letter" APN 0095C0410000EF5A00
+for value in 00F35A00 00800000 0087E000; do
+    check "pmd read: a language without 27, $value" reserved 'at bit 9: a reserved value, *' APN $value
+done
+check 'pmd read: a presentation 0 before 27' reserved 'at bit 0: a reserved value, *' APN 006F7B00
+check 'pmd read: speakers 27' reserved 'at bit 9: a reserved value, *' APD 00EF5AD00000
+bytes 060E2B34027F01010C04010000000000 1B 0113000040 060E2B340401010D0404020800000000 400400EF5A00 >"$T/old.pack"
+check 'pmd find: 27' gives 1 $'APN*\n  refused 17 9' "*: payload at byte 38: refused: FIELD (17) at bit 9: $no_letter" "$BW" pmd find "$T/old.pack"
+check 'check: a pack with 27 in a value is good' gives 0 '*' '' "$BW" check "$T/old.pack"
+
 check 'pmd read: an empty value' gives 1 '' '*BITS (16) at bit 0: *' "$BW" pmd read ESN /dev/null
 check 'pmd read: a value without end' gives 1 '' '*BIG (1) at byte 0: *' "$BW" pmd read ESN /dev/zero
 for kind in 0 8 4294967295 4294967298 99999999999999999999; do
@@ -73,7 +95,6 @@ for letter in {a..z}; do
     for language in "$letter$letter" "a$letter$letter"; do all+="${all:+$'\n'}presentation 1 language $language name \"\""; done
 done
 check 'pmd: every letter' back APN "$all"
-check 'pmd: code 27' back APN 'presentation 1 language (27)a(27) name ""'
 all=''
 for ((i = 1; i < 256; i++)); do
     printf -v byte '\\x%02X' $i
@@ -130,6 +151,8 @@ check 'pmd write: something after a record' line APN "FIELD (17) LINE 'x' stands
 check 'pmd write: no such layout' line APD "FIELD (17) LINE '6.1' stands where a speaker layout*" \
     'presentation 1 speakers 6.1 language en elements none'
 check 'pmd write: no such language' line APN "FIELD (17) LINE 'e' stands where a language*" 'presentation 1 language e name "a"'
+check 'pmd write: a code is no language' line APN "FIELD (17) LINE '(27)a' stands where a language of two or three small letters, a to z, is due" \
+    'presentation 1 language (27)a name "a"'
 check 'pmd write: capitals are no language' line APN "FIELD (17) LINE 'EN'*" 'presentation 1 language EN name "a"'
 check 'pmd write: four letters' line APN "FIELD (17) LINE 'engl'*" 'presentation 1 language engl name "a"'
 check 'pmd write: a name without quotes' line ESN "FIELD (17) LINE 'a' stands where a name*" 'substream 1 name a'
@@ -183,6 +206,13 @@ check 'pmd write --numbers: FIELD at an index' bare 'FIELD (17) at number 4: *' 
 check 'pmd write --numbers: a list that ends early' bare 'BITS (16) at number 2: *' '1 65\n'
 check 'pmd write --numbers: a flag above 1' bare 'FIELD (17) at number 1: *' '1 2 0\n' ETD
 check 'pmd write --numbers: a closing pair without parameters' bare 'BITS (16) at number 4: *' '1 1 3 0\n' ETD
+for langcod in 28506 27514 27483 28539; do
+    check "pmd write --numbers: 27 in langcod $langcod of a name" bare "FIELD (17) at number 1: $no_letter" "1 $langcod 0\n" APN
+    check "pmd write --numbers: 27 in langcod $langcod of a presentation" bare "FIELD (17) at number 6: $no_letter" "1 4 5568 0 2 0 $langcod 0\n" APD
+done
+for list in '1 27 5568' '28506 0 5568' '1 0 61274'; do
+    check "pmd write --numbers: no langcod of 27 in $list" bare 'FIELD (17) at number *: a reserved value*' "$list 0\n" APD
+done
 check 'pmd write --numbers: not a number' bare "FIELD (17) at line 2: '-1' stands where a number is due" '1\n-1\n'
 
 check 'pmd find: every kind, in and out of Syncs' gives 0 "PMD Version at byte 177, value bytes: 2

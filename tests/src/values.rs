@@ -88,7 +88,7 @@ fn fields(kind: u32) -> (&'static [Field], &'static [Field]) {
 type Entry = (u32, Field);
 
 fn group(random: &mut Random) -> u32 {
-    random.pick(&[1, 2, 14, 26, 27, 5])
+    random.pick(&[1, 2, 14, 25, 26, 5])
 }
 
 fn good_number(random: &mut Random, field: Field) -> u32 {
@@ -124,7 +124,7 @@ fn bad_number(random: &mut Random, field: Field) -> u32 {
         Rule::Class => random.between(7, 15) as u32,
         Rule::Langcod => {
             // Each group outside its range in turn, and a first or second group of 0.
-            let (good, outside) = (group(random), random.pick(&[28, 31]));
+            let (good, outside) = (group(random), random.pick(&[27, 28, 31]));
             let (first, second, third) = (good << 10, good << 5, good);
             random.pick(&[
                 outside << 10 | second,

@@ -183,6 +183,30 @@ fn small_values_agree() {
     compare(0, 7 << 16, small);
 }
 
+/// Every langcod, of both kinds that have one: two or three letters of 26 are good, and nothing else.
+#[test]
+fn languages_agree() {
+    let each = |index: usize| (1 + (index >> 15) as u32, (index & 0x7FFF) as u32);
+    let read = compare(0, 2 << 15, |_, index| {
+        let (kind, langcod) = each(index);
+        // Presentation 1 in 9 bits, of APD speaker_config 0 in 5, the langcod in 15, and nothing in the list.
+        let value = match kind {
+            1 => (1_u64 << 39 | u64::from(langcod) << 19).to_be_bytes()[2..].to_vec(),
+            _ => (1 << 23 | langcod << 8).to_be_bytes().to_vec(),
+        };
+        Call::PmdRead { kind, value, numbers: vec![77; 4] }
+    });
+    let written = compare(0, 2 << 15, |_, index| {
+        let (kind, langcod) = each(index);
+        let numbers = if kind == 1 { vec![1, 0, langcod, 0] } else { vec![1, langcod, 0] };
+        Call::PmdWrite { kind, numbers, out: vec![77; 6] }
+    });
+    let good = 2 * 26 * 26 * (26 + 1);
+    for tally in [read, written] {
+        assert_eq!((tally.of(0), tally.of(17)), (good, (2 << 15) - good));
+    }
+}
+
 fn read_turnarounds(value: &[u8], numbers: Vec<u32>) -> Call {
     Call::PmdRead { kind: ETD, value: value.to_vec(), numbers }
 }

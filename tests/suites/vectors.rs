@@ -153,7 +153,7 @@ fn or_dash(text: String) -> String {
 
 #[test]
 fn requests() {
-    run("2026-01.tsv");
+    run("2026-02.tsv");
 }
 
 #[test]

@@ -27,7 +27,7 @@ pub struct ToldGain {
 // The version, as include/ballastwren.h has it.
 const MAJOR: u32 = 0;
 
-const MINOR: u32 = 4;
+const MINOR: u32 = 5;
 
 const PATCH: u32 = 0;
 

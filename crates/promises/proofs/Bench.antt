@@ -1,4 +1,4 @@
--- 01's examples marked P, and those of turnarounds, computed from the definitions.
+-- 01's examples marked P, those of turnarounds and those of languages, computed from the definitions.
 use mathlib.Core.Path.{refl}
 use Rattle.runs.specs.Digits.{digits, numberFrom}
 use Rattle.runs.specs.Same.{same}
@@ -14,9 +14,10 @@ use Rattle.pack.specs.Config.{configMaps}
 use Rattle.pack.specs.Reading.{valueStart, openingAt, readFrom, reading}
 use Rattle.pack.specs.Meaning.{meant}
 use Rattle.pmd.specs.Reading as pmd
+use Rattle.pmd.specs.Writing as writing
 use Rattle.pmd.specs.Records as records
 use Rattle.pmd.specs.Gain.{levelOf}
-use Rattle.promises.specs.Bench.{All, table, turnarounds}
+use Rattle.promises.specs.Bench.{All, table, turnarounds, Languages}
 
 -- Every line of 01 that is marked P holds.
 pub bench : All table
@@ -28,3 +29,8 @@ bench =
 pub bench-turnarounds : All turnarounds
 unfolding All digits numberFrom andThen bits pmd.padding pmd.readFrom pmd.readAs records.width records.takes records.after records.closed records.opened
 bench-turnarounds = (refl, (refl, (refl, (refl, (refl, (refl, (refl, (refl, tt))))))))
+
+-- And every example of a language.
+pub bench-languages : Languages
+unfolding digits numberFrom andThen bits pmd.padding pmd.readFrom pmd.readAs writing.writeFrom writing.packed writing.writeAs records.width records.takes records.after records.closed records.opened
+bench-languages = ((refl, refl), ((refl, refl), ((refl, refl), ((refl, refl), (refl, refl)))))

@@ -1,8 +1,8 @@
--- Trusted. The bench examples of document 01 that are marked P, as one table, and those of turnarounds. The key and the three labels stand here byte for
--- byte.
+-- Trusted. The bench examples of document 01 that are marked P, as one table, those of turnarounds, and those of languages. The key and the three labels
+-- stand here byte for byte.
 use mathlib.Core.Path.{_≡_}
 use mathlib.Core.List.{List, [], _∷_, _++_}
-use Prim.Native.Nat.{ℕ}
+use Prim.Native.Nat.{ℕ, _+_, _*_, _/_, _%_}
 use lib.IntN.{pos, negsuc}
 use Rattle.refusals.specs.declared.Refusal.the-variants as R
 use Rattle.refusals.specs.Outcomes.{Outcome, fine, refused, andThen}
@@ -11,6 +11,7 @@ use Rattle.pack.specs.Said.{number, SaidItem, single, Said}
 use Rattle.pack.specs.Reading.{reading}
 use Rattle.pack.specs.Meaning.{meant}
 use Rattle.pmd.specs.Reading as pmd
+use Rattle.pmd.specs.Writing.{fieldsWritten}
 use Rattle.pmd.specs.Gain.{levelOf}
 use Rattle.pmd.specs.declared.Level.{Level}
 use Rattle.pmd.specs.declared.Level.the-variants as G
@@ -87,3 +88,30 @@ turnarounds =
     ∷ value 7 (0x01 ∷ 0x98 ∷ 0x00 ∷ []) (refused R.Bits 22)
     ∷ value 8 (0x07 ∷ 0x00 ∷ []) (refused R.Kind 0)
     ∷ []
+
+-- a langcod of these three groups
+abbrev pub groups : ℕ → ℕ → ℕ → ℕ
+groups a b c = a * 1024 + b * 32 + c
+
+-- the numbers of kind 2 that give presentation 1 an empty name in a language, and their value: 9 bits, 15 and 8
+abbrev pub nameless : ℕ → List ℕ
+nameless langcod = 1 ∷ langcod ∷ 0 ∷ []
+
+abbrev pub namelessValue : ℕ → List ℕ
+namelessValue langcod = 0x00 ∷ (0x80 + langcod / 256) ∷ (langcod % 256) ∷ 0x00 ∷ []
+
+-- a langcod that is read and written
+abbrev pub IsLanguage : ℕ → Type 0
+IsLanguage langcod =
+    (pmd.fieldsRead 2 (namelessValue langcod) ≡ fine (nameless langcod)) × (fieldsWritten 2 (nameless langcod) ≡ fine (namelessValue langcod))
+
+-- one that is refused at its place, bit 9 of the value and number 1 of the list
+abbrev pub IsReserved : ℕ → Type 0
+IsReserved langcod =
+    (pmd.fieldsRead 2 (namelessValue langcod) ≡ refused R.Field 9) × (fieldsWritten 2 (nameless langcod) ≡ refused R.Field 1)
+
+-- Request 2026-02: the letters of a langcod end with z, and 27 is reserved in each group.
+abbrev pub Languages : Type 0
+Languages =
+    IsLanguage (groups 26 26 26)
+    × (IsLanguage (groups 26 26 0) × (IsReserved (groups 27 26 26) × (IsReserved (groups 26 27 26) × IsReserved (groups 26 26 27))))
