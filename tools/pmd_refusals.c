@@ -71,15 +71,17 @@ int refuse_value(const char *name, uint32_t kind, const uint8_t *value, size_t l
     return refuse(name, answer, unit);
 }
 
-/* No field but a langcod is wide enough for zzz. */
 bool list_refused_for_27(uint32_t kind, const struct numbers *numbers, bw_answer answer)
 {
     uint32_t *number = &numbers->list[answer.value];
     const uint32_t refused = *number;
     bw_answer other;
 
+    if (refused >> LANGCOD != 0 || !has_27(refused))
+        return false;
+    /* No field but a langcod is wide enough for zzz. */
     *number = ZZZ;
     other = bw_pmd_write(kind, numbers->list, numbers->count, NULL, 0);
     *number = refused;
-    return refused >> LANGCOD == 0 && has_27(refused) && !same(other, answer);
+    return !same(other, answer);
 }

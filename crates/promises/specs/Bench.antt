@@ -114,4 +114,7 @@ IsReserved langcod =
 abbrev pub Languages : Type 0
 Languages =
     IsLanguage (groups 26 26 26)
-    × (IsLanguage (groups 26 26 0) × (IsReserved (groups 27 26 26) × (IsReserved (groups 26 27 26) × IsReserved (groups 26 26 27))))
+    × (IsLanguage (groups 26 26 0)
+    × (IsReserved (groups 27 26 26)
+    × (IsReserved (groups 26 27 26)
+    × IsReserved (groups 26 26 27))))
