@@ -444,6 +444,7 @@ static const list_case LISTS[] = {
     {"27 in the second group of a langcod", BW_APN, {1, 26u << 10 | 27u << 5 | 26u, 0}, 3, BW_FIELD, 1},
     {"27 in the third group of a langcod", BW_APN, {1, 26u << 10 | 26u << 5 | 27u, 0}, 3, BW_FIELD, 1},
     {"27 in the langcod of a presentation", BW_APD, {1, 0, 5u << 10 | 27u << 5, 0}, 4, BW_FIELD, 2},
+    {"langcod with a group of 28", BW_APN, {1, 28u << 10 | 1u << 5, 0}, 3, BW_FIELD, 1},
     {"a turnaround 256", BW_ETD, {256, 0, 0}, 3, BW_FIELD, 0},
     {"ed2_exists 2", BW_ETD, {1, 2, 0}, 3, BW_FIELD, 1},
     {"dolbye_exists 2", BW_ETD, {1, 0, 2}, 3, BW_FIELD, 2},

@@ -237,6 +237,9 @@ check 'pmd find: a value that is refused' gives 1 $'APN*\n  refused 16 264\nAPN*
     "$BW" pmd find "$SAMPLES/packs/bad-value.pack"
 check 'pmd find --json: a value that is refused' writes tests/command/json/bad-value.json 1 '*BITS (16)*' \
     "$BW" pmd find --json "$SAMPLES/packs/bad-value.pack"
+# A payload of 4,097 bytes: a pack and its payload may be as long, a value that is read may not.
+{ bytes 060E2B34027F01010C04010000000000 82101A 0113000040 060E2B340401010D0404020800000000 40821001 && head -c 4097 /dev/zero; } >"$T/big.pack"
+check 'pmd find: a value above the cap' gives 1 $'APN*\n  refused 1 0' '*: payload at byte 40: refused: BIG (1) at byte 0: *' "$BW" pmd find "$T/big.pack"
 check 'pmd find: a pack without PMD' gives 0 '' '' "$BW" pmd find "$SAMPLES/packs/number.pack"
 check 'pmd find --json: a pack without PMD' writes tests/command/json/number.json 0 '' "$BW" pmd find --json "$SAMPLES/packs/number.pack"
 check 'pmd find: a pack that is refused' gives 1 '' '*CRC (13) at byte 20: *' "$BW" pmd find "$SAMPLES/packs/refused-crc.pack"
