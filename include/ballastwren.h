@@ -41,6 +41,7 @@
  *     17   FIELD   reading: the bit where the field begins; writing: the number's index; bw_gain: 0
  *     18   PAD     the first bit that is left over
  *     19   KIND    0
+ *     20   ABSENT  0
  *
  *   Bytes of a pack are counted from its key, also for payloads inside a Sync. Bits of a PMD value are counted from
  *   its first byte's most significant bit. Of several faults the one that comes first in the order given with each
@@ -58,9 +59,9 @@ extern "C" {
 
 /* The version of this header and of the library beside it; docs/VERSIONS.md says what its numbers tell. */
 #define BW_VERSION_MAJOR 0
-#define BW_VERSION_MINOR 5
+#define BW_VERSION_MINOR 6
 #define BW_VERSION_PATCH 0
-#define BW_VERSION "0.5.0"
+#define BW_VERSION "0.6.0"
 #define BW_VERSION_NUMBER (BW_VERSION_MAJOR * 10000 + BW_VERSION_MINOR * 100 + BW_VERSION_PATCH)
 
 /*
@@ -85,8 +86,8 @@ uint32_t bw_version(void);
 #define BW_SHEET_MAX (8 + 16 * BW_SHEET_LABELS_MAX + 4 * BW_SHEET_NUMBERS_MAX) /* bytes of the longest keep sheet */
 
 /*
- * Bytes of stack to leave for a call. Measured, not proved: bw_scrub takes 32 KiB, bw_read 29 KiB, bw_check 27 KiB, the
- * others under 1 KiB, on either processor.
+ * Bytes of stack to leave for a call. Measured, not proved: bw_scrub takes 32 KiB, bw_read 29 KiB, bw_check and
+ * bw_lookup 27 KiB, the others under 1 KiB, on either processor.
  */
 #define BW_STACK 40960
 
@@ -116,15 +117,16 @@ enum bw_refusal {
     BW_BITS = 16,   /* a PMD value or a list of numbers that ends inside a record, or has none */
     BW_FIELD = 17,  /* a reserved value, or a number too wide for its field */
     BW_PAD = 18,    /* bits left over after the last record that are not all 0 */
-    BW_KIND = 19    /* not one of enum bw_kind */
+    BW_KIND = 19,   /* not one of enum bw_kind */
+    BW_ABSENT = 20  /* a label that neither pack carries, or that is not of 16 bytes */
 };
 
 /* The refusal's name in capitals ("SHORT"), "DONE" for 0, "UNKNOWN" for a number that no function gives. */
 static inline const char *bw_refusal_name(uint64_t number)
 {
     static const char *const names[] = {
-        "DONE",   "BIG", "SHORT", "KEY", "LENGTH", "TRAIL",  "TAG",  "CUT",   "PLACE", "COUNT",
-        "CONFIG", "MAP", "SYNC",  "CRC", "SHEET",  "NOROOM", "BITS", "FIELD", "PAD",   "KIND"
+        "DONE", "BIG",  "SHORT", "KEY",   "LENGTH", "TRAIL", "TAG",   "CUT", "PLACE", "COUNT", "CONFIG",
+        "MAP",  "SYNC", "CRC",   "SHEET", "NOROOM", "BITS",  "FIELD", "PAD", "KIND",  "ABSENT"
     };
     return number < sizeof names / sizeof names[0] ? names[number] : "UNKNOWN";
 }
@@ -231,6 +233,45 @@ bw_answer bw_scrub(const uint8_t *sheet, size_t sheet_len, const uint8_t *pack, 
  * Refusals: SHEET.
  */
 bw_answer bw_sheet_check(const uint8_t *sheet, size_t sheet_len);
+
+/* Of two packs, which. */
+enum bw_from {
+    BW_NEITHER = 0,
+    BW_MAIN = 1,
+    BW_BACKUP = 2
+};
+
+/*
+ * number 0, and `value` bytes from `start` on of the pack `from`; or a refusal, its place in `value`, the pack at fault
+ * in `from`, and `start` 0. `from` is one of enum bw_from.
+ */
+typedef struct {
+    uint64_t number;
+    uint64_t value;
+    uint64_t from;
+    uint64_t start;
+} bw_found;
+
+/*
+ * Looks a label up in two packs: finds the value of its first payload in `main` or, if main has none, in `backup`.
+ *
+ * The first payload is the first in byte order, inside Syncs too. A label that a pack maps to a tag and that no payload
+ * has is not found in it. A value may have 0 bytes. bw_found_value gives the pointer to it.
+ *
+ * Refusals, in this order: those of bw_check for main, from BW_MAIN; those of bw_check for backup, from BW_BACKUP, also
+ * where main has the label; ABSENT, from BW_NEITHER, if no payload of either has the label, or if `label_len` is not
+ * BW_LABEL_SIZE.
+ */
+bw_found bw_lookup(const uint8_t *main, size_t main_len, const uint8_t *backup, size_t backup_len, const uint8_t *label,
+                   size_t label_len);
+
+/* Where the value stands that bw_lookup found in these two packs: `found.value` bytes; NULL on a refusal. */
+static inline const uint8_t *bw_found_value(bw_found found, const uint8_t *main, const uint8_t *backup)
+{
+    if (found.number != BW_DONE)
+        return NULL;
+    return (found.from == BW_MAIN ? main : backup) + found.start;
+}
 
 /*
  * The kinds of PMD values, and the fields of a record with their widths in bits. A value has one record or more, with

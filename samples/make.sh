@@ -251,6 +251,20 @@ each_kind() {
         payload 72 "$ETD")$(sync 0 0 "$(payload 66 "$AOD")$(payload 71 "$XYZ")")"
 }
 
+# Two feeds of one programme. Both have its version. The main one maps the label of element names and has none; the
+# backup one has them in a Sync, and others after it.
+main_feed() {
+    pack "$(config 0 64 "$VERSION" 65 "$ELEMENT_NAMES" 66 "$POSITIONS")$(payload 64 0100)$(
+        sync 480 1920 "$(payload 66 "$XYZ")")"
+}
+backup_feed() {
+    local later
+    # shellcheck disable=SC2046
+    later=$(bits 12:2 $(name 'Reporter'))
+    pack "$(config 0 70 "$ELEMENT_NAMES" 71 "$VERSION")$(payload 71 0101)$(
+        sync 480 1920 "$(payload 5 AA)$(payload 70 "$AEN")")$(payload 70 "$later")"
+}
+
 # payloads COUNT: so many payloads with tags from 100 on.
 payloads() {
     local i
@@ -266,6 +280,8 @@ make_good_packs() {
     save packs/each-kind.pack "$(each_kind)"
     save packs/bad-value.pack "$(bare "$(config 0 68 "$PRESENTATION_NAMES")$(payload 68 "${APN%00}")$(payload 68 "$APN")")"
     save packs/incident.pack "$(incident)"
+    save packs/main.pack "$(main_feed)"
+    save packs/backup.pack "$(backup_feed)"
     save packs/same-kept-a.pack "$(same_kept_a)"
     save packs/same-kept-b.pack "$(same_kept_b)"
 }

@@ -102,7 +102,7 @@ links_archive() { ! links_shared "$1"; }
 # The shared library has the version's name, and exports what the header declares and nothing else.
 exports() {
     local declared exported
-    declared=$(grep -oE '^[a-z0-9_]+ bw_[a-z_]+\(' include/ballastwren.h | grep -oE 'bw_[a-z_]+' | grep -v '_answer$' | sort)
+    declared=$(sed -nE 's/^[a-z0-9_]+ (bw_[a-z_]+)\(.*/\1/p' include/ballastwren.h | sort)
     exported=$(readelf -W --dyn-syms "$prefix/lib/libballastwren.so" | awk '$5 == "GLOBAL" && $7 != "UND" { print $8 }' | sort)
     diff <(echo "$declared") <(echo "$exported") && readelf -d "$prefix/lib/libballastwren.so" | grep -q "SONAME.*\[$soname\]"
 }

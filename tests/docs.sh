@@ -119,7 +119,7 @@ index() {
 # functions: each public function as CRATE::NAME, and its contract on the same line.
 functions() {
     awk '/^pub (extern "C" )?fn / {
-            name = $0; sub(/^pub (extern "C" )?fn /, "", name); sub(/\(.*/, "", name)
+            name = $0; sub(/^pub (extern "C" )?fn /, "", name); sub(/[<(].*/, "", name)
             crate = FILENAME; sub(/^crates\//, "", crate); sub(/\/.*/, "", crate); text = ""
         }
         name != "" { text = text " " $0 }

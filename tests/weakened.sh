@@ -73,7 +73,7 @@ refused() {
     judged "$(callers "$@")" "$log"
 }
 
-some=(bw_check bw_scrub bw_pmd_read bw_gain) others=(bw_read bw_sheet_check bw_pmd_write)
+some=(bw_check bw_scrub bw_pmd_read bw_gain) others=(bw_read bw_sheet_check bw_lookup bw_pmd_write)
 check "an export is not tried" cmp -s <(printf '%s\n' "${some[@]}" "${others[@]}" bw_version | sort) <(exports | sort)
 for copy in "$copies/some" "$copies/others"; do
     mkdir "$copy" && cp crates.txt "$copy" || exit 2

@@ -14,7 +14,7 @@ struct command {
     const char *words[2]; /* its one or two words */
     int takes;            /* options */
     int least, most;      /* operands */
-    int read;             /* how many of the first operands are read as files, KIND included */
+    int read;             /* how many of the first operands are read as files, KIND and LABEL included */
     int (*run)(const struct options *options);
     const char *help;
 };
@@ -23,6 +23,7 @@ static const struct command commands[] = {
     {{"check", NULL}, 0, 1, INT_MAX, INT_MAX, check_packs, help_check},
     {{"list", NULL}, 0, 1, 1, 1, list_pack, help_list},
     {{"scrub", NULL}, TAKES_SHEET | TAKES_REPORT, 2, 2, 1, scrub_pack, help_scrub},
+    {{"lookup", NULL}, 0, 3, 4, 3, look_up_label, help_lookup},
     {{"sheet", "make"}, 0, 0, 2, 1, make_sheet, help_sheet_make},
     {{"sheet", "show"}, 0, 1, 1, 1, show_sheet, help_sheet_show},
     {{"pmd", "read"}, TAKES_NUMBERS | TAKES_JSON, 2, 2, 2, read_value, help_pmd_read},

@@ -27,6 +27,7 @@ int usage(const char *about, const char *sentence);
 int check_packs(const struct options *options);
 int list_pack(const struct options *options);
 int scrub_pack(const struct options *options);
+int look_up_label(const struct options *options);
 int make_sheet(const struct options *options);
 int show_sheet(const struct options *options);
 int read_value(const struct options *options);

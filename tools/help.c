@@ -7,6 +7,7 @@ const char help_all[] =
     "  ballastwren list PACK                             list the items of a pack\n"
     "  ballastwren scrub --sheet SHEET [--report] PACK OUT\n"
     "                                                    write a new pack with what the keep sheet names\n"
+    "  ballastwren lookup LABEL MAIN BACKUP [OUT]        write a label's value from the main or the backup pack\n"
     "  ballastwren sheet make [TEXT [SHEET]]             make a keep sheet from text\n"
     "  ballastwren sheet show SHEET                      show a keep sheet as text\n"
     "  ballastwren pmd read [--numbers | --json] KIND VALUE\n"
@@ -45,6 +46,16 @@ const char help_scrub[] =
     "  --sheet SHEET   the keep sheet, as 'ballastwren sheet make' writes it\n"
     "  --report        print what is in the written pack and what is proved of it, and nothing of what was\n"
     "                  dropped; OUT must then be a regular file\n";
+
+const char help_lookup[] =
+    "ballastwren lookup LABEL MAIN BACKUP [OUT]\n"
+    "\n"
+    "Writes to OUT ('-' if not given) the value of the first payload with this label in the pack MAIN or, if MAIN has\n"
+    "none, in the pack BACKUP. Payloads inside Syncs count, in byte order. A line on standard error says which pack\n"
+    "the value is from. LABEL has 32 hex digits; '.' may stand between bytes.\n"
+    "Both packs are checked first: a bad BACKUP is refused even where MAIN has the label. A label that no payload of\n"
+    "either has is refused, even if a pack maps it to a tag. A value may have 0 bytes.\n"
+    "OUT is written whole or not at all, and never over MAIN or BACKUP.\n";
 
 const char help_sheet_make[] =
     "ballastwren sheet make [TEXT [SHEET]]\n"

@@ -3,6 +3,21 @@
 #include <string.h>
 
 #include "ballastwren.h"
+#include "hex.h"
+
+bool read_label(struct word word, uint8_t *label)
+{
+    size_t at = 0;
+
+    for (size_t i = 0; i < BW_LABEL_SIZE; i++, at += 2) {
+        if (i > 0 && at < word.length && word.start[at] == '.')
+            at++;
+        if (word.length < at + 2 || hex_digit(word.start[at]) < 0 || hex_digit(word.start[at + 1]) < 0)
+            return false;
+        label[i] = (uint8_t)(hex_digit(word.start[at]) * 16 + hex_digit(word.start[at + 1]));
+    }
+    return at == word.length;
+}
 
 /* The twelfth byte of a label tells the payload; the table begins with 04. */
 enum { FIRST = 0x04 };

@@ -1,10 +1,16 @@
-/* The labels of PMD payloads: Table 29 of the PMD specification. */
+/* Labels as they are spelled, and those of PMD payloads: Table 29 of the PMD specification. */
 #ifndef LABELS_H
 #define LABELS_H
 
 #include <stdbool.h>
 #include <stddef.h>
 #include <stdint.h>
+
+#include "lines.h"
+
+/* Reads a label of 16 bytes: 32 hex digits in either case; a full stop may stand between bytes, as the PMD
+   specification prints labels. */
+bool read_label(struct word word, uint8_t *label);
 
 struct pmd_label {
     const char *title;

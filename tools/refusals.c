@@ -27,7 +27,8 @@ const char *refusal_sentence(uint64_t number)
         "it ends inside a record, or has no record at all",
         "a reserved value, or a number too wide for its field",
         "the bits after the last record are not all zero",
-        "the kinds are 1 APD, 2 APN, 3 AOD, 4 XYZ, 5 AEN, 6 ESN and 7 ETD"
+        "the kinds are 1 APD, 2 APN, 3 AOD, 4 XYZ, 5 AEN, 6 ESN and 7 ETD",
+        "neither pack has a payload with this label; that a Config maps it is not enough"
     };
 
     return number < sizeof sentences / sizeof sentences[0] ? sentences[number] : "no such refusal is known here";

@@ -2,7 +2,7 @@
 #include <string.h>
 
 #include "exits.h"
-#include "hex.h"
+#include "labels.h"
 #include "lines.h"
 #include "refusals.h"
 #include "sheets.h"
@@ -46,21 +46,6 @@ static size_t lay_out(const struct entries *entries, uint8_t *bytes)
     for (uint32_t i = 0; i < numbers; i++)
         at = put_number(at, entries->numbers[i], 4);
     return (size_t)(at - bytes);
-}
-
-/* 32 hex digits; a full stop may stand between bytes, as the PMD specification prints labels. */
-static bool read_label(struct word word, uint8_t *label)
-{
-    size_t at = 0;
-
-    for (size_t i = 0; i < BW_LABEL_SIZE; i++, at += 2) {
-        if (i > 0 && at < word.length && word.start[at] == '.')
-            at++;
-        if (word.length < at + 2 || hex_digit(word.start[at]) < 0 || hex_digit(word.start[at + 1]) < 0)
-            return false;
-        label[i] = (uint8_t)(hex_digit(word.start[at]) * 16 + hex_digit(word.start[at + 1]));
-    }
-    return at == word.length;
 }
 
 /* Takes one line. Returns what is wrong with its form, NULL if nothing is. */

@@ -20,6 +20,13 @@ pub struct Sheet {
     pub bytes: Vec<u8>,
 }
 
+pub struct Lookup {
+    pub name: &'static str,
+    pub main: Vec<u8>,
+    pub backup: Vec<u8>,
+    pub label: [u8; 16],
+}
+
 pub struct Value {
     pub name: &'static str,
     pub kind: u32,
@@ -54,14 +61,18 @@ fn label(last: u8) -> [u8; 16] {
     [0x06, 0x0E, 0x2B, 0x34, 0x04, 0x01, 0x01, 0x0D, 0x0E, 0x09, 0x06, 0x07, 0x01, 0x01, 0x01, last]
 }
 
-/// A Config that maps tags 64 to 95 to labels which differ in their last bytes.
-fn config() -> Vec<u8> {
+/// A Config that maps tags 64 to 95 to labels which differ in their last bytes, from `first` on.
+fn config_from(first: u8) -> Vec<u8> {
     let mut value = vec![0, 7];
     for i in 0..32 {
         value.push(64 + i);
-        value.extend(label(i));
+        value.extend(label(first + i));
     }
     element(1, &value)
+}
+
+fn config() -> Vec<u8> {
+    config_from(0)
 }
 
 fn syncs(count: usize) -> Vec<u8> {
@@ -109,6 +120,24 @@ pub fn scrubs() -> Vec<Scrub> {
         }
     }
     scrubs
+}
+
+/// A label that main has at once, that the backup has alone, that neither has, or that stands in Syncs.
+pub fn lookups() -> Vec<Lookup> {
+    let bytes = |body: &[Vec<u8>]| pack(String::new(), &body.concat()).bytes;
+    let one = |first| bytes(&[config_from(first), payloads(1, 12)]);
+    let many = |first| bytes(&[config_from(first), payloads(40, 12)]);
+    let in_syncs = bytes(&[config(), payloads(1, 12), syncs(20)]);
+    let plain = bytes(&[payloads(60, 500)]);
+    vec![
+        Lookup { name: "found in main, 1 labelled payload", main: one(0), backup: one(0), label: label(0) },
+        Lookup { name: "found in main at once, 40 payloads", main: many(0), backup: many(0), label: label(0) },
+        Lookup { name: "found in main late, 40 payloads", main: many(0), backup: many(0), label: label(31) },
+        Lookup { name: "found in backup late, 40 payloads", main: many(100), backup: many(0), label: label(31) },
+        Lookup { name: "absent, 40 labelled payloads", main: many(0), backup: many(0), label: label(100) },
+        Lookup { name: "found in a Sync of 20", main: in_syncs.clone(), backup: in_syncs, label: label(1) },
+        Lookup { name: "absent, 60 payloads of 500 bytes", main: plain.clone(), backup: plain, label: label(0) },
+    ]
 }
 
 fn value(name: &'static str, kind: u32, numbers: Vec<u32>) -> Value {

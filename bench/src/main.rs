@@ -132,12 +132,23 @@ fn sheet_check(case: &cases::Sheet) {
     report(&name, times);
 }
 
+fn lookup(case: &cases::Lookup) {
+    let name = format!("lookup, {}", case.name);
+    agree(&name, archive::lookup(&case.main, &case.backup, &case.label), archive::found(reference::lookup(&case.main, &case.backup, &case.label)));
+    let times = race(
+        || { let _ = black_box(archive::lookup(black_box(&case.main), black_box(&case.backup), black_box(&case.label))); },
+        || { let _ = black_box(reference::lookup(black_box(&case.main), black_box(&case.backup), black_box(&case.label))); },
+    );
+    report(&name, times);
+}
+
 fn main() {
     let packs = cases::packs();
     packs.iter().for_each(check);
     packs.iter().for_each(read);
     cases::scrubs().iter().for_each(scrub);
     cases::sheets().iter().for_each(sheet_check);
+    cases::lookups().iter().for_each(lookup);
     let values = cases::values();
     values.iter().for_each(pmd_read);
     values.iter().for_each(pmd_write);

@@ -61,10 +61,11 @@ impl Mappings {
         }
     }
 
-    /// Whether a mapping has this label already.
-    fn has_label(&self, part: &[u8], label: &Label) -> bool {
+    /// The tag that is mapped to `label`, if one is; the labels stand in `part`.
+    pub fn tag_of(&self, part: &[u8], label: &Label) -> Option<u32> {
         let mut starts = self.labels[..self.count].iter();
-        starts.any(|&at| label_at(part, usize::from(at)) == Some(label))
+        let index = starts.position(|&at| label_at(part, usize::from(at)) == Some(label))?;
+        Some(self.tags[index])
     }
 }
 
@@ -93,7 +94,7 @@ pub fn read_config(
         if tag <= 3
             || is_utility(label)
             || mappings.find(tag).is_some()
-            || seen.may_hold(label) && mappings.has_label(part, label)
+            || seen.may_hold(label) && mappings.tag_of(part, label).is_some()
         {
             return Err(Reason::Map.at(place));
         }

@@ -1,5 +1,6 @@
 //! An independent reference implementation of the utility's rules: one ST 2109 audio metadata
-//! pack (read, check, list, scrub by a keep sheet) and the values of seven PMD payload kinds.
+//! pack (read, check, list, scrub by a keep sheet), the value of a label in a main pack or its
+//! backup, and the values of seven PMD payload kinds.
 //!
 //! Nothing here allocates except the text of a listing, and no function changes a lent buffer
 //! when it refuses.
@@ -13,6 +14,7 @@ pub mod gain;
 mod grammar;
 mod labels;
 pub mod list;
+pub mod lookup;
 pub mod numbers;
 pub mod pack;
 pub mod pmd;
@@ -24,6 +26,7 @@ mod walk;
 pub use gain::{gain, Gain};
 pub use labels::Label;
 pub use list::{list, listing};
+pub use lookup::{lookup, Found, LookupRefusal, Mark};
 pub use pack::{check, read, Item, Name, Payload, Reading};
 pub use pmd::{pmd_read, pmd_write};
 pub use rows::rows;
@@ -79,6 +82,8 @@ pub enum Reason {
     Pad = 18,
     /// Kind not 1 to 7.
     Kind = 19,
+    /// A label that neither of two packs carries, or that is not of 16 bytes.
+    Absent = 20,
 }
 
 impl Reason {

@@ -7,8 +7,9 @@ use reference::crc::crc;
 use reference::numbers::{length_size, read_length, read_tag, tag_size, write_length, write_tag};
 use reference::numbers::{Fault, MAX_TAG};
 use reference::pack::KEY;
-use reference::{check, gain, listing, pmd_read, pmd_write, read, rows, scrub, sheet_check};
-use reference::{Gain, Item, Name, Reason, Refusal};
+use reference::{check, gain, listing, lookup, pmd_read, pmd_write, read, rows};
+use reference::{scrub, sheet_check};
+use reference::{Found, Gain, Item, LookupRefusal, Mark, Name, Reason, Refusal};
 
 /// The sheet that keeps all.
 const ALL: &[u8] = &[0xFF, 0xFF, 0, 8, 0xFF, 0xFF, 0, 8];
@@ -21,13 +22,49 @@ fn sheet(labels: &[&str], numbers: &[u32]) -> Vec<u8> {
     counts.chain(labels).chain(numbers).collect()
 }
 
-/// Expects the same refusal from the check, the reading and the rows.
+/// Expects the same refusal from the check, the reading and the rows, and from a look-up that has
+/// the pack as main, as backup of a main that carries the label, and as both.
 #[track_caller]
 fn refused(pack: &[u8], reason: Reason, place: usize) {
     let refusal = reason.at(place);
     assert_eq!(check(pack), Err(refusal));
     assert_eq!(read(pack).err(), Some(refusal));
     assert_eq!(rows(pack, &mut [0; 520]), Err(refusal));
+    let carries = carrying(&[payload(64, b"a")]);
+    lookup_refused(pack, &carries, LABEL_A, refusal, Some(Mark::Main));
+    lookup_refused(&carries, pack, LABEL_A, refusal, Some(Mark::Backup));
+    lookup_refused(pack, pack, LABEL_A, refusal, Some(Mark::Main));
+    lookup_refused(pack, &k("80"), "", refusal, Some(Mark::Main));
+}
+
+/// A pack that maps tag 64 to label A and holds these.
+fn carrying(items: &[Vec<u8>]) -> Vec<u8> {
+    pack(&[config(0, &[(64, LABEL_A)]), items.concat()].concat())
+}
+
+/// Where the first payload of a pack as [`carrying`] makes it stands: after key, length and Config.
+const FIRST: usize = 16 + 1 + 21;
+
+#[track_caller]
+fn lookup_refused(main: &[u8], backup: &[u8], label: &str, refusal: Refusal, mark: Option<Mark>) {
+    let expected = LookupRefusal { refusal, mark };
+    assert_eq!(lookup(main, backup, &hex(label)), Err(expected));
+}
+
+/// Expects a label that neither pack carries, whichever of them is main.
+#[track_caller]
+fn absent(one: &[u8], other: &[u8], label: &str) {
+    lookup_refused(one, other, label, Reason::Absent.at(0), None);
+    lookup_refused(other, one, label, Reason::Absent.at(0), None);
+}
+
+/// Expects label A's value at this place of the pack that is marked, and not a copy of it.
+#[track_caller]
+fn found(main: &[u8], backup: &[u8], mark: Mark, start: usize, value: &[u8]) {
+    let found = lookup(main, backup, &hex(LABEL_A)).unwrap();
+    assert_eq!(found, Found { mark, start, value });
+    let pack = if mark == Mark::Main { main } else { backup };
+    assert!(std::ptr::eq(found.value, &pack[start..][..value.len()]));
 }
 
 /// Expects a sheet to be refused by a check, and by a scrub of an empty pack.
@@ -623,6 +660,74 @@ fn scrub_takes_the_last_free_tag() {
     let items = [config(0, &[(5, LABEL_A)]), payload(5, b""), numbers.clone()];
     let kept = [config(0, &[(127, LABEL_A)]), payload(127, b""), numbers];
     scrubbed(ALL, &pack(&items.concat()), &kept.concat());
+}
+
+#[test]
+fn lookup_takes_the_first_payload() {
+    let a = || payload(64, b"a");
+    let b = || payload(64, b"bb");
+    let other = || payload(5, b"other");
+    let none = k("00");
+    let twice = carrying(&[other(), a(), b()]);
+    found(&twice, &none, Mark::Main, FIRST + 7 + 2, b"a");
+    found(&none, &twice, Mark::Backup, FIRST + 7 + 2, b"a");
+    // Inside a Sync and then outside, and the other way round.
+    let inside = carrying(&[sync(&[other(), b()]), a()]);
+    found(&inside, &none, Mark::Main, FIRST + 6 + 7 + 2, b"bb");
+    found(&none, &inside, Mark::Backup, FIRST + 6 + 7 + 2, b"bb");
+    let outside = carrying(&[a(), sync(&[b()])]);
+    found(&outside, &none, Mark::Main, FIRST + 2, b"a");
+    // In the second of two Syncs alone.
+    let later = carrying(&[sync(&[other()]), sync(&[b()])]);
+    found(&later, &none, Mark::Main, FIRST + 13 + 6 + 2, b"bb");
+    // A value of 0 bytes is one, and hides those after it and in the backup.
+    let empty = carrying(&[payload(64, b""), a()]);
+    found(&empty, &outside, Mark::Main, FIRST + 2, b"");
+    found(&none, &empty, Mark::Backup, FIRST + 2, b"");
+}
+
+#[test]
+fn lookup_goes_by_labels() {
+    // The same label under another tag, and the same tag under another label.
+    let long = [
+        config(-1, &[(64, LABEL_B), (300, LABEL_A)]),
+        payload(64, b"b"),
+        payload(300, &[7; 200]),
+    ];
+    let long = pack_with_crc(&long.concat());
+    let start = 16 + 2 + 39 + 3 + 4;
+    let short = carrying(&[payload(64, b"a")]);
+    found(&long, &short, Mark::Main, start, &[7; 200]);
+    found(&short, &long, Mark::Main, FIRST + 2, b"a");
+    found(&long, &long, Mark::Main, start, &[7; 200]);
+    // Mapped and used by no payload is not carried.
+    let unused = carrying(&[payload(5, b"x")]);
+    found(&unused, &long, Mark::Backup, start, &[7; 200]);
+    absent(&unused, &unused, LABEL_A);
+    // A payload that is known by its number has no label.
+    absent(&k("03 40 01 AA"), &unused, LABEL_A);
+}
+
+#[test]
+fn lookup_of_labels_that_are_absent() {
+    let carries = carrying(&[payload(64, b"a"), sync(&[payload(5, b"")])]);
+    let none = k("00");
+    absent(&carries, &none, LABEL_B);
+    // Labels of Config, Sync and CRC, which no payload is known by.
+    for utility in 1..=3 {
+        let label = format!("060E2B340401010D040402{utility:02X}00000000");
+        absent(&pack_with_crc(&carries[17..]), &carries, &label);
+    }
+    // Not of 16 bytes: nothing, all but the last byte, a byte or another label more.
+    let longer = [LABEL_A, LABEL_A].concat();
+    for label in ["", &LABEL_A[..30], &longer[..34], &longer] {
+        absent(&carries, &none, label);
+        absent(&carries, &carries, label);
+    }
+    // A pack that is refused comes first.
+    let short = Reason::Short.at(0);
+    lookup_refused(&carries, &[], LABEL_B, short, Some(Mark::Backup));
+    lookup_refused(&[], &carries, "", short, Some(Mark::Main));
 }
 
 #[test]

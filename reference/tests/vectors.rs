@@ -4,7 +4,8 @@
 use std::fs;
 use std::path::Path;
 
-use reference::{gain, listing, pmd_read, pmd_write, rows, scrub, Gain, Refusal, Sheet};
+use reference::{gain, listing, lookup, pmd_read, pmd_write, rows, scrub};
+use reference::{Found, Gain, LookupRefusal, Mark, Refusal, Sheet};
 
 /// Runs one file of vectors.
 fn run(file: &str) {
@@ -34,6 +35,9 @@ fn answer(inputs: &[&str]) -> String {
             let mut out = bytes(out);
             let result = scrub(&bytes(sheet), &bytes(pack), &mut out);
             format!("{}\t{}", outcome(result), hex(&out))
+        }
+        ["lookup", _, label, main, backup] => {
+            lookup_answer(&bytes(label), &bytes(main), &bytes(backup))
         }
         ["pmd_read", _, kind, value, numbers] => {
             let mut numbers = list(numbers);
@@ -90,6 +94,26 @@ fn sheet_answer(sheet: &[u8]) -> String {
     }
 }
 
+/// The stretch that was found, which must be one of the pack it is said to be of.
+fn lookup_answer(label: &[u8], main: &[u8], backup: &[u8]) -> String {
+    match lookup(main, backup, label) {
+        Ok(Found { mark, start, value }) => {
+            let pack = if mark == Mark::Main { main } else { backup };
+            assert_eq!(value, &pack[start..][..value.len()]);
+            format!("ok {} {start} {}", marked(Some(mark)), value.len())
+        }
+        Err(LookupRefusal { refusal, mark }) => format!("{} {}", refused(refusal), marked(mark)),
+    }
+}
+
+fn marked(mark: Option<Mark>) -> &'static str {
+    match mark {
+        Some(Mark::Main) => "main",
+        Some(Mark::Backup) => "backup",
+        None => "neither",
+    }
+}
+
 fn outcome(result: Result<usize, Refusal>) -> String {
     match result {
         Ok(count) => format!("ok {count}"),
@@ -138,7 +162,7 @@ fn join(numbers: &[u32]) -> String {
 
 #[test]
 fn requests() {
-    run("2026-02.tsv");
+    run("2026-03.tsv");
 }
 
 #[test]

@@ -2,7 +2,7 @@
  * Calls the archive for a program that does not link it: batches of calls on standard input, their outcomes on standard
  * output. So a call that faults is told with its input, and the archive may be for another processor, under an emulator.
  *
- * A batch is a 32-bit count of bytes and then as many bytes of calls, each a `struct call` and the bytes of its three
+ * A batch is a 32-bit count of bytes and then as many bytes of calls, each a `struct call` and the bytes of its four
  * ranges; the outcomes come back in the same form, each a `struct outcome` and the buffer's bytes. All is little-endian.
  *
  * Each lent range stands right before or right after a page that may not be touched, and the bytes on its other side
@@ -20,14 +20,14 @@
 
 #include "ballastwren.h"
 
-enum { CHECK, READ, SCRUB, SHEET_CHECK, PMD_READ, PMD_WRITE, GAIN };
+enum { CHECK, READ, SCRUB, SHEET_CHECK, LOOKUP, PMD_READ, PMD_WRITE, GAIN };
 enum { FAULT = 1, OVERWRITTEN = 2, INPUT_CHANGED = 4 };
 
 struct call {
     uint32_t function;
-    uint32_t scalar; /* kind or gain */
+    uint32_t scalar; /* kind, gain, or whether main is lent as backup too */
     uint32_t at_end; /* whether the guard stands after the ranges or before them */
-    uint32_t first_len, second_len, buffer_len;
+    uint32_t first_len, second_len, third_len, buffer_len;
 };
 
 struct outcome {
@@ -50,7 +50,7 @@ struct range {
     size_t len;
 };
 
-static struct range first, second, buffer;
+static struct range first, second, third, buffer;
 static sigjmp_buf fault;
 
 static void die(const char *what)
@@ -78,8 +78,9 @@ static uint8_t *make_arena(void)
     return start;
 }
 
-/* Lends a copy of the bytes. An empty range is NULL at one end and a good pointer at the other. */
-static void lend(struct range *range, const uint8_t *given, size_t len, bool at_end)
+/* Lends a copy of the bytes, and answers where they end. An empty range is NULL at one end and a good pointer at the
+   other. */
+static const uint8_t *lend(struct range *range, const uint8_t *given, size_t len, bool at_end)
 {
     if (len + MARGIN > ARENA) {
         fprintf(stderr, "a range of %zu bytes is too long\n", len);
@@ -93,6 +94,7 @@ static void lend(struct range *range, const uint8_t *given, size_t len, bool at_
     memset(range->margin, FILLER, MARGIN);
     if (len == 0 && at_end)
         range->bytes = NULL;
+    return given + len;
 }
 
 static uint32_t look(const struct range *range, bool lent_to_write)
@@ -106,6 +108,19 @@ static uint32_t look(const struct range *range, bool lent_to_write)
     return trouble;
 }
 
+/* The two numbers that a look-up has beside its answer go to the front of the buffer, and the value after them. */
+static bw_answer lookup(bool one_pack)
+{
+    const struct range *backup = one_pack ? &first : &second;
+    bw_found found = bw_lookup(first.bytes, first.len, backup->bytes, backup->len, third.bytes, third.len);
+    uint64_t beside[2] = {found.from, found.start};
+    memcpy(buffer.bytes, beside, sizeof beside);
+    const uint8_t *value = bw_found_value(found, first.bytes, backup->bytes);
+    if (value != NULL)
+        memcpy(buffer.bytes + sizeof beside, value, found.value);
+    return (bw_answer){found.number, found.value};
+}
+
 static bw_answer call(const struct call *c)
 {
     switch (c->function) {
@@ -117,6 +132,8 @@ static bw_answer call(const struct call *c)
         return bw_scrub(first.bytes, first.len, second.bytes, second.len, buffer.bytes, buffer.len);
     case SHEET_CHECK:
         return bw_sheet_check(first.bytes, first.len);
+    case LOOKUP:
+        return lookup(c->scalar);
     case PMD_READ:
         return bw_pmd_read(c->scalar, first.bytes, first.len, (uint32_t *)buffer.bytes, buffer.len / 4);
     case PMD_WRITE:
@@ -133,10 +150,11 @@ static size_t carry_out(const uint8_t *in, uint8_t **out)
 {
     struct call c;
     memcpy(&c, in, sizeof c);
-    const uint8_t *ranges = in + sizeof c;
-    lend(&first, ranges, c.first_len, c.at_end);
-    lend(&second, ranges + c.first_len, c.second_len, c.at_end);
-    lend(&buffer, ranges + c.first_len + c.second_len, c.buffer_len, c.at_end);
+    const uint8_t *given = in + sizeof c;
+    given = lend(&first, given, c.first_len, c.at_end);
+    given = lend(&second, given, c.second_len, c.at_end);
+    given = lend(&third, given, c.third_len, c.at_end);
+    given = lend(&buffer, given, c.buffer_len, c.at_end);
     struct outcome told = {0, 0, FAULT, c.buffer_len};
     if (sigsetjmp(fault, 0) == 0) {
         bw_answer answer = call(&c);
@@ -144,12 +162,12 @@ static size_t carry_out(const uint8_t *in, uint8_t **out)
         told.value = answer.value;
         told.trouble = 0;
     }
-    told.trouble |= look(&first, false) | look(&second, false) | look(&buffer, true);
+    told.trouble |= look(&first, false) | look(&second, false) | look(&third, false) | look(&buffer, true);
     memcpy(*out, &told, sizeof told);
     if (c.buffer_len > 0)
         memcpy(*out + sizeof told, buffer.bytes, c.buffer_len);
     *out += sizeof told + c.buffer_len;
-    return sizeof c + c.first_len + c.second_len + c.buffer_len;
+    return (size_t)(given - in);
 }
 
 /* Reads exactly `len` bytes; false where the input ends before the first of them. */
@@ -205,6 +223,7 @@ int main(void)
     sigaction(SIGBUS, &action, NULL);
     first.arena = make_arena();
     second.arena = make_arena();
+    third.arena = make_arena();
     buffer.arena = make_arena();
     uint32_t size;
     while (take(&size, sizeof size))

@@ -12,7 +12,7 @@
 #include "lent.h"
 
 static int passed, failed;
-static bool met[BW_KIND + 1];
+static bool met[BW_ABSENT + 1];
 
 /* Where ranges are put now, and where all: the last is repeated if there is but one. */
 static enum lent_side side, sides[2];
@@ -39,7 +39,7 @@ static void test(bool (*try)(const void *), const void *c, const char *function,
 
 static bool is(bw_answer answer, uint64_t number, uint64_t value)
 {
-    if (answer.number <= BW_KIND)
+    if (answer.number <= BW_ABSENT)
         met[answer.number] = true;
     if (answer.number == number && answer.value == value)
         return true;
@@ -318,6 +318,126 @@ static void sheets(void)
     test(try_longest_sheet, NULL, "bw_sheet_check", "the longest sheet");
 }
 
+/* Answer, pack and start of a look-up. */
+static bool is_found(bw_found found, uint64_t number, uint64_t value, uint64_t from, uint64_t start)
+{
+    bw_answer answer = {found.number, found.value};
+    if (!is(answer, number, value))
+        return false;
+    if (found.from == from && found.start == start)
+        return true;
+    printf("got pack %llu, start %llu, expected pack %llu, start %llu\n", (unsigned long long)found.from,
+           (unsigned long long)found.start, (unsigned long long)from, (unsigned long long)start);
+    return false;
+}
+
+typedef struct {
+    const char *name, *main, *backup, *label;
+    uint64_t number, from, start;
+    const char *value; /* on success: its bytes */
+} lookup_case;
+
+#define OTHER "060E2B340401010D0404020E00000000"
+#define NOTHING "K 00"
+/* The label's value is AB, from byte 40 on. */
+#define CARRIES "K 18 0113 0000 40" LABEL "4001AB"
+#define UNUSED "K 18 0113 0000 40" LABEL "0501CD"
+
+static const lookup_case LOOKUPS[] = {
+    {"in main", CARRIES, NOTHING, LABEL, BW_DONE, BW_MAIN, 40, "AB"},
+    {"in backup", NOTHING, CARRIES, LABEL, BW_DONE, BW_BACKUP, 40, "AB"},
+    {"main before backup", "K 17 0113 0000 40" LABEL "4000", CARRIES, LABEL, BW_DONE, BW_MAIN, 40, ""},
+    {"a value of 0 bytes in backup", NOTHING, "K 17 0113 0000 40" LABEL "4000", LABEL, BW_DONE, BW_BACKUP, 40, ""},
+    {"mapped and not used in main", UNUSED, CARRIES, LABEL, BW_DONE, BW_BACKUP, 40, "AB"},
+    {"mapped and not used", UNUSED, UNUSED, LABEL, BW_ABSENT, BW_NEITHER, 0, NULL},
+    {"the first of two", "K 1B 0113 0000 40" LABEL "4001AB 4001CD", NOTHING, LABEL, BW_DONE, BW_MAIN, 40, "AB"},
+    {"in a Sync", NOTHING, "K 20 0113 0000 40" LABEL "0209 00010002 0500 4001AB", LABEL, BW_DONE, BW_BACKUP, 48, "AB"},
+    {"in a Sync before outside", "K 21 0113 0000 40" LABEL "0207 00010002 4001AB 4001CD", CARRIES, LABEL, BW_DONE,
+     BW_MAIN, 46, "AB"},
+    {"outside a Sync before inside", "K 21 0113 0000 40" LABEL "4001AB 0207 00010002 4001CD", CARRIES, LABEL, BW_DONE,
+     BW_MAIN, 40, "AB"},
+    {"under another tag than in main", "K 18 0113 0000 40" OTHER "4001EF", "K 1A 0114 0000 8200" LABEL "820001AB",
+     LABEL, BW_DONE, BW_BACKUP, 42, "AB"},
+    {"in a pack as long as may be", "K 82 7FED 0113 0000 40" LABEL "40 82 7FD4 {AA}32724", NOTHING, LABEL, BW_DONE,
+     BW_MAIN, 44, "{AA}32724"},
+    {"another label", CARRIES, CARRIES, OTHER, BW_ABSENT, BW_NEITHER, 0, NULL},
+    {"another last byte", CARRIES, CARRIES, "060E2B340401010D0404020D00000001", BW_ABSENT, BW_NEITHER, 0, NULL},
+    {"a payload of the same tag without a label", "K 03 4001AB", NOTHING, LABEL, BW_ABSENT, BW_NEITHER, 0, NULL},
+    {"Sync's label", "K 08 0206 00000000 0500", CARRIES, UTILITY, BW_ABSENT, BW_NEITHER, 0, NULL},
+    {"a label of 0 bytes", CARRIES, CARRIES, "", BW_ABSENT, BW_NEITHER, 0, NULL},
+    {"a label of 15 bytes", CARRIES, CARRIES, "060E2B340401010D0404020D000000", BW_ABSENT, BW_NEITHER, 0, NULL},
+    {"a label of 17 bytes", CARRIES, CARRIES, LABEL "00", BW_ABSENT, BW_NEITHER, 0, NULL},
+    {"a label of 32 bytes", CARRIES, CARRIES, LABEL LABEL, BW_ABSENT, BW_NEITHER, 0, NULL},
+    {"a label of 65,552 bytes", CARRIES, CARRIES, LABEL "{00}65536", BW_ABSENT, BW_NEITHER, 0, NULL},
+};
+
+static bool try_lookup(const void *given)
+{
+    const lookup_case *c = given;
+    lent main = pack_of(c->main), backup = pack_of(c->backup), label = pack_of(c->label);
+    bw_found got = bw_lookup(main.bytes, main.len, backup.bytes, backup.len, label.bytes, label.len);
+    const uint8_t *there = bw_found_value(got, main.bytes, backup.bytes);
+    bool good;
+    if (c->number == BW_DONE) {
+        size_t len;
+        const uint8_t *value = bytes_of(c->value, &len);
+        const lent *pack = c->from == BW_MAIN ? &main : &backup;
+        good = is_found(got, BW_DONE, len, c->from, c->start) && there == pack->bytes + c->start &&
+               memcmp(there, value, len) == 0;
+    } else {
+        good = is_found(got, c->number, 0, c->from, 0) && there == NULL;
+    }
+    lent_back(&main);
+    lent_back(&backup);
+    lent_back(&label);
+    return good;
+}
+
+static bool refused_in(const pack_case *c, const lent *main, const lent *backup, const lent *label, uint64_t from)
+{
+    bw_found got = bw_lookup(main->bytes, main->len, backup->bytes, backup->len, label->bytes, label->len);
+    return is_found(got, c->number, c->value, from, 0) && bw_found_value(got, main->bytes, backup->bytes) == NULL;
+}
+
+/* A refused pack as main, as backup of one that has the label, as both, and before a backup and a label of 0 bytes. */
+static bool try_refused_lookup(const void *given)
+{
+    static const lent nothing;
+    const pack_case *c = given;
+    lent bad = pack_of(c->pack), carries = pack_of(CARRIES), label = pack_of(LABEL);
+    bool good = refused_in(c, &bad, &carries, &label, BW_MAIN) && refused_in(c, &carries, &bad, &label, BW_BACKUP) &&
+                refused_in(c, &bad, &bad, &label, BW_MAIN) && refused_in(c, &bad, &nothing, &nothing, BW_MAIN);
+    lent_back(&bad);
+    lent_back(&carries);
+    lent_back(&label);
+    return good;
+}
+
+/* Main, backup and label in one range: the label is the one that stands in the Config, or the key. */
+static bool try_one_range(const void *unused)
+{
+    (void)unused;
+    lent pack = pack_of(CARRIES);
+    const uint8_t *label = pack.bytes + 22;
+    bw_found got = bw_lookup(pack.bytes, pack.len, pack.bytes, pack.len, label, BW_LABEL_SIZE);
+    bool good = is_found(got, BW_DONE, 1, BW_MAIN, 40) &&
+                bw_found_value(got, pack.bytes, pack.bytes) == pack.bytes + 40;
+    got = bw_lookup(pack.bytes, pack.len, pack.bytes, pack.len, pack.bytes, BW_LABEL_SIZE);
+    good = good && is_found(got, BW_ABSENT, 0, BW_NEITHER, 0);
+    lent_back(&pack);
+    return good;
+}
+
+static void lookups(void)
+{
+    for (size_t i = 0; i < sizeof LOOKUPS / sizeof LOOKUPS[0]; i++)
+        test(try_lookup, &LOOKUPS[i], "bw_lookup", LOOKUPS[i].name);
+    for (size_t i = 0; i < sizeof PACKS / sizeof PACKS[0]; i++)
+        if (PACKS[i].number != BW_DONE)
+            test(try_refused_lookup, &PACKS[i], "bw_lookup", PACKS[i].name);
+    test(try_one_range, NULL, "bw_lookup", "main, backup and label in one range");
+}
+
 typedef struct {
     const char *name;
     uint32_t kind;
@@ -549,6 +669,11 @@ static void empty_ranges(void)
     report(is(bw_scrub(NULL, 0, pack, sizeof pack, NULL, 0), BW_NOROOM, 0), "bw_scrub", "NULL sheet and buffer");
     report(is(bw_scrub(NULL, 0, pack, sizeof pack, out, sizeof out), BW_DONE, 23), "bw_scrub", "NULL sheet");
     report(is(bw_sheet_check(NULL, 0), BW_DONE, 0), "bw_sheet_check", "NULL");
+    bw_found absent = bw_lookup(pack, sizeof pack, pack, sizeof pack, NULL, 0);
+    report(is_found(absent, BW_ABSENT, 0, BW_NEITHER, 0), "bw_lookup", "NULL label");
+    bw_found no_backup = bw_lookup(pack, sizeof pack, NULL, 0, pack, BW_LABEL_SIZE);
+    report(is_found(no_backup, BW_SHORT, 0, BW_BACKUP, 0), "bw_lookup", "NULL backup");
+    report(is_found(bw_lookup(NULL, 0, NULL, 0, NULL, 0), BW_SHORT, 0, BW_MAIN, 0), "bw_lookup", "NULL thrice");
     report(is(bw_pmd_read(BW_ESN, NULL, 0, NULL, 0), BW_BITS, 0), "bw_pmd_read", "NULL and NULL");
     report(is(bw_pmd_read(BW_ESN, value, sizeof value, NULL, 0), BW_NOROOM, 0), "bw_pmd_read", "NULL numbers");
     report(is(bw_pmd_write(BW_ESN, NULL, 0, NULL, 0), BW_BITS, 0), "bw_pmd_write", "NULL and NULL");
@@ -585,13 +710,13 @@ static void names(void)
 {
     size_t all_len;
     bool good = strcmp(bw_refusal_name(BW_DONE), "DONE") == 0 && strcmp(bw_refusal_name(BW_BIG), "BIG") == 0 &&
-                strcmp(bw_refusal_name(BW_SHEET), "SHEET") == 0 && strcmp(bw_refusal_name(BW_KIND), "KIND") == 0 &&
-                strcmp(bw_refusal_name(20), "UNKNOWN") == 0 && strcmp(bw_refusal_name(UINT64_MAX), "UNKNOWN") == 0;
+                strcmp(bw_refusal_name(BW_SHEET), "SHEET") == 0 && strcmp(bw_refusal_name(BW_ABSENT), "ABSENT") == 0 &&
+                strcmp(bw_refusal_name(21), "UNKNOWN") == 0 && strcmp(bw_refusal_name(UINT64_MAX), "UNKNOWN") == 0;
     report(good, "bw_refusal_name", "first, last and beyond");
     const uint8_t *all = bytes_of(ALL, &all_len);
     report(all_len == sizeof bw_keep_all && memcmp(all, bw_keep_all, all_len) == 0, "bw_keep_all", "its bytes");
-    report(sizeof(bw_answer) == 16 && sizeof(bw_gain_answer) == 12, "answers", "their sizes");
-    for (int number = BW_DONE; number <= BW_KIND; number++)
+    report(sizeof(bw_answer) == 16 && sizeof(bw_found) == 32 && sizeof(bw_gain_answer) == 12, "answers", "their sizes");
+    for (int number = BW_DONE; number <= BW_ABSENT; number++)
         report(met[number], "met", bw_refusal_name((uint64_t)number));
 }
 
@@ -610,6 +735,7 @@ int main(int count, char **arguments)
     test(try_rows, "K 29 0113 FFFE 40" LABEL "4003 616263 0207 FFFFFFFF 080178 0304 59747E70", "bw_read", "all rows");
     scrubs();
     sheets();
+    lookups();
     values();
     lists();
     test(try_longest, NULL, "bw_pmd_write and bw_pmd_read", "as much as fits 4,096 bytes");

@@ -17,7 +17,7 @@ static uint8_t stack[STACK];
 static ucontext_t outside, inside;
 static void (*work)(void);
 
-static uint8_t pack[BW_PACK_MAX], sheet[BW_SHEET_MAX], out[BW_PACK_MAX];
+static uint8_t pack[BW_PACK_MAX], sheet[BW_SHEET_MAX], out[BW_PACK_MAX], label[BW_LABEL_SIZE];
 static size_t pack_len, sheet_len;
 static uint32_t rows[BW_ROWS_MAX], numbers[BW_PMD_NUMBERS_MAX];
 static uint32_t kind;
@@ -28,6 +28,7 @@ static void check(void) { bw_check(pack, pack_len); }
 static void read_rows(void) { bw_read(pack, pack_len, rows, BW_ROWS_MAX); }
 static void scrub(void) { bw_scrub(sheet, sheet_len, pack, pack_len, out, sizeof out); }
 static void sheet_check(void) { bw_sheet_check(sheet, sheet_len); }
+static void lookup(void) { bw_lookup(pack, pack_len, pack, pack_len, label, sizeof label); }
 static void pmd_read(void) { bw_pmd_read(kind, out, value_len, numbers, BW_PMD_NUMBERS_MAX); }
 static void pmd_write(void) { value_len = bw_pmd_write(kind, numbers, number_count, out, sizeof out).value; }
 static void gain(void) { bw_gain(63); }
@@ -125,6 +126,15 @@ static size_t most_of_packs(void (*call)(void))
     return bytes;
 }
 
+/* A label that both packs are searched for to the end, and the one that the full pack maps last. */
+static void lookups(void)
+{
+    memset(label, 0xFF, sizeof label);
+    size_t absent = most_of_packs(lookup);
+    memset(label, 31, sizeof label);
+    tell("bw_lookup", greatest(absent, most_of_packs(lookup)));
+}
+
 /* A long list of each kind, written and read. */
 static void pmd(void)
 {
@@ -156,6 +166,7 @@ int main(void)
     longest_sheet(sheet);
     sheet_len = BW_SHEET_MAX;
     tell("bw_sheet_check", most(sheet_check));
+    lookups();
     pmd();
     tell("bw_gain", most(gain));
     tell("bw_version", most(version));

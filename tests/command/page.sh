@@ -5,8 +5,8 @@ check 'manual page: mandoc finds no fault' gives 0 '' '' mandoc -Tlint -W all to
 # documented WORD: the manual page has it.
 mandoc -Tascii -O width=200 tools/ballastwren.1 | sed $'s/.\b//g' >"$T/page"
 documented() { grep -q -- "$1" "$T/page"; }
-for word in 'ballastwren check' 'ballastwren list' 'ballastwren scrub' 'sheet make' 'sheet show' 'pmd read' 'pmd write' 'pmd find' \
-    --sheet --report --numbers --json '19 KIND'; do
+for word in 'ballastwren check' 'ballastwren list' 'ballastwren scrub' 'ballastwren lookup' 'sheet make' 'sheet show' 'pmd read' 'pmd write' \
+    'pmd find' --sheet --report --numbers --json '19 KIND' '20 ABSENT'; do
     check "manual page: $word" documented "$word"
 done
 
@@ -21,7 +21,7 @@ completes() {
     ) >"$T/out"
     [[ $(<"$T/out") == "$1" ]] || { cat "$T/out"; return 1; }
 }
-check 'completion: subcommands' completes 'check list scrub sheet pmd --help --version' ballastwren ''
+check 'completion: subcommands' completes 'check list scrub lookup sheet pmd --help --version' ballastwren ''
 check 'completion: a subcommand begun' completes 'scrub sheet' ballastwren s
 check 'completion: the second word' completes 'make show --help' ballastwren sheet ''
 check 'completion: kinds' completes 'APD APN AOD AEN' ballastwren pmd read A
@@ -31,6 +31,13 @@ check 'completion: options of pmd write' completes '--numbers --json --help' bal
 check 'completion: files' completes 'samples/packs/full.pack' ballastwren check samples/packs/fu
 check 'completion: the file of an option' completes 'samples/sheets/rack.sheet' ballastwren scrub --sheet samples/sheets/rack.s
 check 'completion: OUT after PACK' completes 'samples/packs/full.pack' ballastwren scrub --sheet a b samples/packs/fu
+for words in 'lookup L' 'lookup L a' 'lookup L a b'; do
+    read -ra split <<<"$words"
+    check "completion: the next file of $words" completes 'samples/packs/full.pack' ballastwren "${split[@]}" samples/packs/fu
+done
+check 'completion: no file for a label' completes '' ballastwren lookup samples/packs/fu
+check 'completion: no file after OUT' completes '' ballastwren lookup L a b c samples/packs/fu
+check 'completion: options of lookup' completes '--help' ballastwren lookup --
 check 'completion: nothing after the last operand' completes '' ballastwren list a samples/packs/fu
 
 # installed: all files stand where they belong, the command runs, and uninstall leaves none.

@@ -5,7 +5,7 @@ SHEET=$SAMPLES/sheets/rack.sheet PACK=$SAMPLES/packs/incident.pack
 
 check '--version' gives 0 "ballastwren $VERSION" '' "$BW" --version
 check '--help' gives 0 'ballastwren: *pmd find*Exit status*' '' "$BW" --help
-for words in check list scrub 'sheet make' 'sheet show' 'pmd read' 'pmd write' 'pmd find'; do
+for words in check list scrub lookup 'sheet make' 'sheet show' 'pmd read' 'pmd write' 'pmd find'; do
     read -ra split <<<"$words"
     check "$words --help" gives 0 "ballastwren $words *" '' "$BW" "${split[@]}" --help
     check "$words: is in --help" gives 0 "*ballastwren $words *" '' "$BW" --help

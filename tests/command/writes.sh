@@ -1,7 +1,7 @@
 # shellcheck shell=bash
 # Outputs are written whole or not at all, never over an input; a write that fails or is interrupted leaves nothing.
 
-PACK=$SAMPLES/packs/incident.pack RACK=$SAMPLES/sheets/rack.sheet
+PACK=$SAMPLES/packs/incident.pack RACK=$SAMPLES/sheets/rack.sheet LABEL=060E2B340401010D0404020400000000
 W=$T/writes
 
 # fresh: an empty folder, a copy of the inputs beside it.
@@ -35,6 +35,17 @@ for call in 'write' fsync pread rename; do
     check "write with a report: $call fails" broken "FAIL=$call" --report
 done
 check 'write with a report: the file gives back something else' broken CHANGE=pread --report
+
+# unfound VARIABLE=CALL: the same of a value that was looked up; no line says where it is from.
+unfound() {
+    local lookup=(env "$1" "$FAILING" lookup "$LABEL" "$T/in/pack" "$PACK" "$W/out")
+    fresh && gives 2 '' '*: ?*' "${lookup[@]}" && left '' || return
+    echo before >"$W/out"
+    gives 2 '' '*: ?*' "${lookup[@]}" && left out && [[ $(<"$W/out") == before ]]
+}
+for call in read write 'second write' fchmod fsync close rename; do
+    check "write a value: $call fails" unfound "FAIL=$call"
+done
 
 # piecemeal CALL: one byte at a time is as good.
 piecemeal() {
@@ -74,6 +85,13 @@ check 'write: over the pack on standard input' over from "$T/in/pack" "$BW" scru
 # shellcheck disable=SC2094  # that it reads and writes one file is the point
 appended() { "$BW" scrub --sheet "$T/in/sheet" "$T/in/pack" - >>"$T/in/pack"; }
 check 'write: over the pack by standard output' over appended
+check 'write: lookup over its main pack' over "$BW" lookup $LABEL "$T/in/pack" "$SAMPLES/packs/main.pack" "$T/in/pack"
+check 'write: lookup over its backup pack' over "$BW" lookup $LABEL "$SAMPLES/packs/main.pack" "$T/in/pack" "$T/in/pack"
+check 'write: lookup over its backup pack by a link' over "$BW" lookup $LABEL "$SAMPLES/packs/main.pack" "$T/in/pack" "$W/link"
+check 'write: lookup over its main pack on standard input' over from "$T/in/pack" "$BW" lookup $LABEL - "$SAMPLES/packs/main.pack" "$T/in/pack"
+# shellcheck disable=SC2094
+value_appended() { "$BW" lookup $LABEL "$SAMPLES/packs/main.pack" "$T/in/pack" >>"$T/in/pack"; }
+check 'write: lookup over its backup pack by standard output' over value_appended
 cp "$SAMPLES/sheets/rack.txt" "$T/in/text"
 check 'write: sheet make over its text' gives 2 '' '*is an input*' "$BW" sheet make "$T/in/text" "$T/in/text"
 check 'write: pmd write over its fields' gives 2 '' '*is an input*' sh -c "cp '$SAMPLES/values/apn.txt' '$T/in/text' && '$BW' pmd write APN '$T/in/text' '$T/in/text'"
@@ -95,6 +113,8 @@ check 'write: no such folder' gives 2 '' '*: No such file or directory' "$BW" sc
 check 'write: to /dev/null' gives 0 '' '' "$BW" scrub --sheet "$RACK" "$PACK" /dev/null
 check 'write: which stays a device' test -c /dev/null
 check 'write: to a pipe that has a name' writes "$T/clean" 0 '' sh -c "mkfifo '$W/pipe' && { cat '$W/pipe' & '$BW' scrub --sheet '$RACK' '$PACK' '$W/pipe' && wait; }"
+check 'write a value: to /dev/null' gives 0 '' '*: the value is from the main pack, *' "$BW" lookup $LABEL "$PACK" "$PACK" /dev/null
+check 'write a value: to a full device' gives 2 '' '*full: No space left on device' "$BW" lookup $LABEL "$PACK" "$PACK" /dev/full
 check 'write: to a full device' gives 2 '' '*full: No space left on device' "$BW" scrub --sheet "$RACK" "$PACK" /dev/full
 check 'write: standard output is full' gives 2 '' '*standard output: No space left on device' sh -c "'$BW' scrub --sheet '$RACK' '$PACK' - >/dev/full"
 
@@ -105,8 +125,8 @@ unreported() {
 check 'write: a report to a full device' unreported /dev/full
 check 'write: a report to a closed output' unreported '&-'
 
-for words in 'check PACK' 'list PACK' 'sheet show SHEET' 'pmd find PACK' --help --version; do
-    words=${words/PACK/$PACK} words=${words/SHEET/$RACK}
+for words in 'check PACK' 'list PACK' "lookup $LABEL PACK PACK" 'sheet show SHEET' 'pmd find PACK' --help --version; do
+    words=${words//PACK/$PACK} words=${words/SHEET/$RACK}
     check "standard output is full: ${words%% /*}" gives 2 '' '*standard output: No space left on device' sh -c "'$BW' $words >/dev/full"
     check "standard output is closed: ${words%% /*}" gives 2 '' '*standard output: Bad file descriptor' sh -c "'$BW' $words >&-"
 done
@@ -121,6 +141,7 @@ closed_pipe() {
 }
 check 'a closed pipe: list' closed_pipe list "$PACK"
 check 'a closed pipe: scrub' closed_pipe scrub --sheet "$RACK" "$PACK" -
+check 'a closed pipe: lookup' closed_pipe lookup $LABEL "$PACK" "$PACK"
 check 'a closed pipe: pmd write' closed_pipe pmd write APN "$SAMPLES/values/apn.txt"
 closed_report() { fresh && closed_pipe scrub --report --sheet "$RACK" "$PACK" "$W/out" && left ''; }
 check 'a closed pipe: a report, and no pack is left' closed_report
@@ -149,13 +170,15 @@ full_disk() {
 if [[ $(id -u) -eq 0 ]] && unshare -m true 2>/dev/null; then
     check 'write: a disk that is full' gives 2 filler '*: No space left on device' full_disk
 fi
+# locked WORDS...: the command of these words and an OUT there.
 locked() {
     local as=()
     fresh && chmod 555 "$W" && chmod 755 "$T/in"
     [[ $(id -u) -ne 0 ]] || as=(setpriv --reuid=65534 --regid=65534 --clear-groups)
-    gives 2 '' '*: Permission denied' "${as[@]}" "$BW" scrub --sheet "$T/in/sheet" "$T/in/pack" "$W/out" && left ''
+    gives 2 '' '*: Permission denied' "${as[@]}" "$BW" "$@" "$W/out" && left ''
 }
-check 'write: a folder that may not be written' locked
+check 'write: a folder that may not be written' locked scrub --sheet "$T/in/sheet" "$T/in/pack"
+check 'write a value: a folder that may not be written' locked lookup $LABEL "$T/in/pack" "$T/in/pack"
 locked_file() {
     local as=()
     fresh && chmod 777 "$W" && echo before >"$W/out" && chmod 444 "$W/out"

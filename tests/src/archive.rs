@@ -10,6 +10,7 @@ pub enum Call {
     Read { pack: Vec<u8>, rows: Vec<u32> },
     Scrub { sheet: Vec<u8>, pack: Vec<u8>, out: Vec<u8> },
     SheetCheck { sheet: Vec<u8> },
+    Lookup { main: Vec<u8>, backup: Vec<u8>, label: Vec<u8> },
     PmdRead { kind: u32, value: Vec<u8>, numbers: Vec<u32> },
     PmdWrite { kind: u32, numbers: Vec<u32>, out: Vec<u8> },
     Gain { gain: u32 },
@@ -22,7 +23,8 @@ pub struct Answer {
     pub value: u64,
 }
 
-/// An answer and the buffer after the call, numbers as four bytes each.
+/// An answer and the buffer after the call, numbers as four bytes each. For `bw_lookup`, which is lent none, the buffer
+/// is that of `found_buffer`.
 #[derive(Clone, Debug, PartialEq, Eq)]
 pub struct Outcome {
     pub answer: Answer,
@@ -34,6 +36,20 @@ impl Outcome {
     pub fn numbers(&self) -> Vec<u32> {
         self.buffer.as_chunks().0.iter().map(|&four| u32::from_le_bytes(four)).collect()
     }
+
+    /// `from` and `start` of a look-up.
+    pub fn found(&self) -> (u64, u64) {
+        let mut rest = &self.buffer[..];
+        (u64::from_le_bytes(take(&mut rest)), u64::from_le_bytes(take(&mut rest)))
+    }
+}
+
+/// What C gets of a look-up beside its answer: `from` and `start` of eight bytes each, and the value as it stands where
+/// `bw_found_value` points; then zeros, for as long as a value in one of these packs could be.
+pub fn found_buffer(main: &[u8], backup: &[u8], (from, start): (u64, u64), value: &[u8]) -> Vec<u8> {
+    let mut buffer = [&from.to_le_bytes(), &start.to_le_bytes(), value].concat();
+    buffer.resize(16 + main.len().max(backup.len()), 0);
+    buffer
 }
 
 /// A running bridge.
@@ -101,20 +117,27 @@ impl Drop for Archive {
 
 /// Appends a call in the bridge's form.
 fn encode(call: &Call, guard_after: bool, batch: &mut Vec<u8>) {
-    let (function, scalar, first, second, buffer) = match call {
-        Call::Check { pack } => (0, 0, pack.clone(), &[][..], vec![]),
-        Call::Read { pack, rows } => (1, 0, pack.clone(), &[][..], four_each(rows)),
-        Call::Scrub { sheet, pack, out } => (2, 0, sheet.clone(), &pack[..], out.clone()),
-        Call::SheetCheck { sheet } => (3, 0, sheet.clone(), &[][..], vec![]),
-        Call::PmdRead { kind, value, numbers } => (4, *kind, value.clone(), &[][..], four_each(numbers)),
-        Call::PmdWrite { kind, numbers, out } => (5, *kind, four_each(numbers), &[][..], out.clone()),
-        Call::Gain { gain } => (6, *gain, vec![], &[][..], vec![]),
+    let list;
+    let (function, scalar, read, buffer): (u32, u32, [&[u8]; 3], Vec<u8>) = match call {
+        Call::Check { pack } => (0, 0, [pack, &[], &[]], vec![]),
+        Call::Read { pack, rows } => (1, 0, [pack, &[], &[]], four_each(rows)),
+        Call::Scrub { sheet, pack, out } => (2, 0, [sheet, pack, &[]], out.clone()),
+        Call::SheetCheck { sheet } => (3, 0, [sheet, &[], &[]], vec![]),
+        // Ranges that are only read may overlap: packs that are the same are lent as one.
+        Call::Lookup { main, backup, label } => {
+            (4, u32::from(main == backup), [main, backup, label], found_buffer(main, backup, (0, 0), &[]))
+        }
+        Call::PmdRead { kind, value, numbers } => (5, *kind, [value, &[], &[]], four_each(numbers)),
+        Call::PmdWrite { kind, numbers, out } => {
+            list = four_each(numbers);
+            (6, *kind, [&list, &[], &[]], out.clone())
+        }
+        Call::Gain { gain } => (7, *gain, [&[]; 3], vec![]),
     };
-    let sizes = [first.len(), second.len(), buffer.len()].map(|size| size as u32);
-    let header = [function, scalar, u32::from(guard_after), sizes[0], sizes[1], sizes[2]];
+    let sizes = [read[0].len(), read[1].len(), read[2].len(), buffer.len()].map(|size| size as u32);
+    let header = [&[function, scalar, u32::from(guard_after)], &sizes[..]].concat();
     batch.extend(header.iter().flat_map(|number| number.to_le_bytes()));
-    batch.extend(first);
-    batch.extend(second);
+    batch.extend(read.concat());
     batch.extend(buffer);
 }
 
@@ -156,6 +179,9 @@ pub fn shown(call: &Call) -> String {
             format!("bw_scrub\n  sheet {}\n  pack {}\n  room for {} bytes", hex(sheet), hex(pack), out.len())
         }
         Call::SheetCheck { sheet } => format!("bw_sheet_check\n  sheet {}", hex(sheet)),
+        Call::Lookup { main, backup, label } => {
+            format!("bw_lookup\n  main {}\n  backup {}\n  label {}", hex(main), hex(backup), hex(label))
+        }
         Call::PmdRead { kind, value, numbers } => {
             format!("bw_pmd_read\n  kind {kind}\n  value {}\n  room for {} numbers", hex(value), numbers.len())
         }

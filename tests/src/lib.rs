@@ -4,6 +4,7 @@
 
 pub mod archive;
 pub mod damage;
+pub mod lookups;
 pub mod oracle;
 pub mod packs;
 pub mod random;

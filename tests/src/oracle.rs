@@ -1,8 +1,8 @@
 //! The reference implementation's outcome of a call.
 
-use reference::{Gain, Refusal};
+use reference::{Found, Gain, LookupRefusal, Mark, Refusal};
 
-use crate::archive::{four_each, Answer, Call, Outcome};
+use crate::archive::{found_buffer, four_each, Answer, Call, Outcome};
 
 pub fn outcome(call: &Call) -> Outcome {
     match call {
@@ -16,6 +16,7 @@ pub fn outcome(call: &Call) -> Outcome {
             told(reference::scrub(sheet, pack, &mut out), out)
         }
         Call::SheetCheck { sheet } => told(reference::sheet_check(sheet), vec![]),
+        Call::Lookup { main, backup, label } => lookup_told(main, backup, label),
         Call::PmdRead { kind, value, numbers } => {
             let mut numbers = numbers.clone();
             told(reference::pmd_read(*kind, value, &mut numbers), four_each(&numbers))
@@ -35,6 +36,21 @@ fn told(result: Result<usize, Refusal>, buffer: Vec<u8>) -> Outcome {
         Err(refusal) => Answer { number: refusal.number.into(), value: refusal.place as u64 },
     };
     Outcome { answer, buffer }
+}
+
+fn lookup_told(main: &[u8], backup: &[u8], label: &[u8]) -> Outcome {
+    let from = |mark| match mark {
+        Mark::Main => 1,
+        Mark::Backup => 2,
+    };
+    match reference::lookup(main, backup, label) {
+        Ok(Found { mark, start, value }) => {
+            told(Ok(value.len()), found_buffer(main, backup, (from(mark), start as u64), value))
+        }
+        Err(LookupRefusal { refusal, mark }) => {
+            told(Err(refusal), found_buffer(main, backup, (mark.map_or(0, from), 0), &[]))
+        }
+    }
 }
 
 fn gain_told(result: Result<Gain, Refusal>) -> Outcome {

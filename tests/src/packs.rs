@@ -174,6 +174,16 @@ const fn table() -> [u32; 256] {
 }
 
 impl Pack {
+    /// The labels that its Config maps, whether a payload has them or not.
+    pub fn mapped(&self) -> Vec<Label> {
+        match self.parts.first() {
+            Some(Part { value: Value::Config { mappings, .. }, .. }) => {
+                mappings.iter().filter_map(|(_, label)| Label::try_from(&label[..]).ok()).collect()
+            }
+            _ => vec![],
+        }
+    }
+
     /// The pack's bytes. A CRC is that of the bytes before it, as they come to stand.
     pub fn bytes(&self) -> Vec<u8> {
         let mut value = Vec::new();
@@ -252,7 +262,7 @@ pub fn any_label(random: &mut Random) -> Label {
 }
 
 /// One of these labels but for a bit or two, and not one of the three.
-fn near(random: &mut Random, labels: &[Label]) -> Label {
+pub fn near(random: &mut Random, labels: &[Label]) -> Label {
     let mut label = random.pick(labels);
     let any = random.below(16);
     let at = random.pick(&[15, 15, 12, any]);
@@ -305,26 +315,37 @@ fn any_count(random: &mut Random) -> usize {
     }
 }
 
-/// What an accepted pack can say.
-pub fn any_said(random: &mut Random) -> Said {
+/// Labels for the payloads of a pack: few as a rule, around the cap of mappings now and then.
+pub fn any_labels(random: &mut Random) -> Vec<Label> {
     let distinct = if random.percent(4) { random.between(28, MAPPINGS_MAX) } else { random.below(5) };
     let mut labels: Vec<Label> = Vec::new();
     for _ in 0..distinct {
         let label = if labels.is_empty() || random.percent(70) { any_label(random) } else { near(random, &labels) };
         labels.push(label);
     }
+    labels
+}
+
+/// What an accepted pack can say.
+pub fn any_said(random: &mut Random) -> Said {
+    let labels = any_labels(random);
+    said_with(random, &labels)
+}
+
+/// The same with these labels, or some of them.
+pub fn said_with(random: &mut Random, labels: &[Label]) -> Said {
     let count = any_count(random);
     let mut said = Said { offset: any_u16(random), items: Vec::new() };
     let mut left = count;
     while left > 0 {
         if left >= 2 && random.percent(30) {
             let inside = random.between(1, (left - 1).min(6));
-            let inside: Vec<Payload> = (0..inside).map(|_| any_payload(random, &labels)).collect();
+            let inside: Vec<Payload> = (0..inside).map(|_| any_payload(random, labels)).collect();
             left -= 1 + inside.len();
             said.items.push(Item::Sync { offset: any_u16(random), duration: any_u16(random), inside });
         } else {
             left -= 1;
-            said.items.push(Item::Single(any_payload(random, &labels)));
+            said.items.push(Item::Single(any_payload(random, labels)));
         }
     }
     said
@@ -347,11 +368,17 @@ fn tags_for(random: &mut Random, labels: &[Label], numbers: &[u32]) -> Vec<(u32,
 
 /// Puts what a pack says into a dress of its own. The pack is accepted if it is not above its cap.
 pub fn dressed(random: &mut Random, said: &Said) -> Pack {
+    let unused = if random.percent(30) { random.below(3) } else { 0 };
+    let unused: Vec<Label> = (0..unused).map(|_| any_label(random)).collect();
+    dressed_with(random, said, &unused)
+}
+
+/// The same with mappings of these labels too, as many as there may be.
+pub fn dressed_with(random: &mut Random, said: &Said, more: &[Label]) -> Pack {
     let mut labels = said.labels();
-    for _ in 0..if random.percent(30) { random.below(3) } else { 0 } {
-        let unused = any_label(random);
-        if labels.len() < MAPPINGS_MAX && !labels.contains(&unused) {
-            labels.push(unused);
+    for label in more {
+        if labels.len() < MAPPINGS_MAX && !labels.contains(label) {
+            labels.push(*label);
         }
     }
     random.shuffle(&mut labels);

@@ -31,10 +31,11 @@ pub fn say(line: &str) {
 }
 
 /// How often each number was answered.
-pub struct Tally([usize; 20]);
+#[derive(Default)]
+pub struct Tally([usize; NAMES.len()]);
 
 impl Tally {
-    fn add(&mut self, number: u64) {
+    pub fn add(&mut self, number: u64) {
         self.0[number as usize] += 1;
     }
 
@@ -53,9 +54,9 @@ impl Tally {
     }
 }
 
-const NAMES: [&str; 20] = [
+const NAMES: [&str; 21] = [
     "done", "BIG", "SHORT", "KEY", "LENGTH", "TRAIL", "TAG", "CUT", "PLACE", "COUNT", "CONFIG", "MAP", "SYNC", "CRC",
-    "SHEET", "NOROOM", "BITS", "FIELD", "PAD", "KIND",
+    "SHEET", "NOROOM", "BITS", "FIELD", "PAD", "KIND", "ABSENT",
 ];
 
 fn heading() -> String {
@@ -65,7 +66,7 @@ fn heading() -> String {
 /// Compares archive and reference on `count` calls, and panics at the first difference.
 pub fn compare(seed: u64, count: usize, mut call: impl FnMut(&mut Random, usize) -> Call) -> Tally {
     let mut archive = Archive::start();
-    let mut tally = Tally([0; 20]);
+    let mut tally = Tally::default();
     let mut next = 0;
     while next < count {
         let size = BATCH.min(count - next);
@@ -104,8 +105,8 @@ fn difference(seed: u64, index: usize, call: &Call, expected: &Outcome, got: &Ou
 pub fn require(function: &str, tally: &Tally, refusals: &[usize]) {
     say(&format!("{}\n{}", heading(), tally.line(function)));
     let expected = |number: usize| number == 0 || refusals.contains(&number);
-    let missing: Vec<&str> = (0..20).filter(|&n| expected(n) && tally.0[n] == 0).map(|n| NAMES[n]).collect();
+    let missing: Vec<&str> = (0..NAMES.len()).filter(|&n| expected(n) && tally.0[n] == 0).map(|n| NAMES[n]).collect();
     assert!(missing.is_empty(), "{function}: never answered {missing:?}");
-    let strange: Vec<&str> = (0..20).filter(|&n| !expected(n) && tally.0[n] > 0).map(|n| NAMES[n]).collect();
+    let strange: Vec<&str> = (0..NAMES.len()).filter(|&n| !expected(n) && tally.0[n] > 0).map(|n| NAMES[n]).collect();
     assert!(strange.is_empty(), "{function}: answered {strange:?}, which it cannot give");
 }

@@ -3,26 +3,32 @@
 
 use ballastwren_tests::archive::{Answer, Archive, Call};
 use ballastwren_tests::damage::damaged;
+use ballastwren_tests::lookups::{any_asked, Asked};
 use ballastwren_tests::oracle;
-use ballastwren_tests::packs::{any_pack, stretch, Said, KEY, PACK_MAX};
+use ballastwren_tests::packs::{any_pack, stretch, Pack, Said, KEY, PACK_MAX};
 use ballastwren_tests::random::Random;
-use ballastwren_tests::runs::{compare, inputs, require, seed};
+use ballastwren_tests::runs::{compare, inputs, require, say, seed, Tally};
 use ballastwren_tests::sheets::{any_sheet_bytes, bad_sheet, KEEP_ALL};
 use ballastwren_tests::values::{any_kind, any_list, any_value, many_turnarounds, ETD, NUMBERS_MAX};
 
 const INPUTS: usize = 200_000;
 
+/// A pack's bytes: good in so many of a hundred cases, else damaged, and now and then just above its cap.
+fn laid_out(random: &mut Random, pack: &mut Pack, good: usize) -> Vec<u8> {
+    match random.below(1000) {
+        case if case < 10 * good => pack.bytes(),
+        998 | 999 => {
+            stretch(pack, random.between(PACK_MAX + 1, PACK_MAX + 9));
+            pack.bytes()
+        }
+        _ => damaged(random, pack),
+    }
+}
+
 /// A pack, good or damaged, and what it was to say.
 fn good_or_damaged(random: &mut Random) -> (Said, Vec<u8>) {
     let (said, mut pack) = any_pack(random);
-    let bytes = match random.below(1000) {
-        0..=399 => pack.bytes(),
-        400..=997 => damaged(random, &mut pack),
-        _ => {
-            stretch(&mut pack, random.between(PACK_MAX + 1, PACK_MAX + 9));
-            pack.bytes()
-        }
-    };
+    let bytes = laid_out(random, &mut pack, 40);
     (said, bytes)
 }
 
@@ -83,6 +89,14 @@ fn sheet_check_call(random: &mut Random) -> Call {
     Call::SheetCheck { sheet }
 }
 
+fn lookup_call(random: &mut Random) -> Call {
+    let Asked { packs: [mut main, mut backup], label, .. } = any_asked(random);
+    let one_pack = random.percent(5);
+    let main = laid_out(random, &mut main, 80);
+    let backup = if one_pack { main.clone() } else { laid_out(random, &mut backup, 75) };
+    Call::Lookup { main, backup, label }
+}
+
 fn pmd_read_call(random: &mut Random, kind: u32) -> Call {
     // Now and then a value of another kind than it is read as.
     let made_as = if random.percent(5) { any_kind(random) } else { kind };
@@ -126,6 +140,69 @@ fn bw_scrub_agrees() {
 fn bw_sheet_check_agrees() {
     let tally = compare(seed() + 6, inputs(INPUTS), |random, _| sheet_check_call(random));
     require("bw_sheet_check", &tally, &[14]);
+}
+
+/// What look-ups came to: the answers by the pack that they are of, neither, main or backup, and cases of interest.
+#[derive(Default)]
+struct Looked {
+    of: [Tally; 3],
+    both_refused: usize,
+    in_a_sync: usize,
+    empty: usize,
+    unused_in_main: usize,
+    no_label: usize,
+}
+
+impl Looked {
+    fn add(&mut self, call: &Call) {
+        let Call::Lookup { main, backup, label } = call else { panic!("a look-up") };
+        let told = oracle::outcome(call);
+        let (from, start) = told.found();
+        self.of[from as usize].add(told.answer.number);
+        let refused = |pack: &[u8]| oracle::outcome(&Call::Check { pack: pack.to_vec() }).answer.number != 0;
+        match (told.answer, from) {
+            (Answer { number: 0, value }, _) => {
+                self.in_a_sync += usize::from(stands_in_a_sync(if from == 1 { main } else { backup }, start));
+                self.empty += usize::from(value == 0);
+                self.unused_in_main += usize::from(from == 2 && main.windows(16).any(|part| part == label));
+            }
+            (_, 0) => self.no_label += usize::from(label.len() != 16),
+            (_, 1) => self.both_refused += usize::from(refused(backup)),
+            _ => {}
+        }
+    }
+}
+
+/// Whether the value that starts there is of a payload inside a Sync.
+fn stands_in_a_sync(pack: &[u8], start: u64) -> bool {
+    let read = oracle::outcome(&Call::Read { pack: pack.to_vec(), rows: vec![0; 520] });
+    read.numbers().chunks(8).skip(1).any(|row| row[0] == 2 && u64::from(row[4]) == start)
+}
+
+#[test]
+fn bw_lookup_agrees() {
+    let mut looked = Looked::default();
+    let tally = compare(seed() + 9, inputs(INPUTS), |random, _| {
+        let call = lookup_call(random);
+        looked.add(&call);
+        call
+    });
+    let of_a_pack = [1, 2, 3, 4, 5, 6, 7, 8, 9, 10, 11, 12, 13];
+    require("bw_lookup", &tally, &[&of_a_pack[..], &[20]].concat());
+    require("  of main", &looked.of[1], &of_a_pack);
+    require("  of backup", &looked.of[2], &of_a_pack);
+    assert_eq!(looked.of[0].of(20), tally.of(20));
+    let met = [
+        ("both packs refused", looked.both_refused),
+        ("found in a Sync", looked.in_a_sync),
+        ("a value of 0 bytes", looked.empty),
+        ("mapped and not used in main, found in backup", looked.unused_in_main),
+        ("absent, and not of 16 bytes", looked.no_label),
+    ];
+    for (what, count) in met {
+        say(&format!("  {what}: {count}"));
+        assert!(count > 0, "never met: {what}");
+    }
 }
 
 #[test]

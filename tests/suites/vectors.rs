@@ -3,7 +3,7 @@
 use std::fs;
 use std::path::Path;
 
-use ballastwren_tests::archive::{hex, Answer, Archive, Call, Outcome};
+use ballastwren_tests::archive::{found_buffer, hex, Answer, Archive, Call, Outcome};
 use ballastwren_tests::packs::{dressed, Item, Label, Name, Payload, Said, KEY};
 use ballastwren_tests::random::Random;
 use ballastwren_tests::runs::say;
@@ -35,6 +35,7 @@ fn judge(archive: &mut Archive, inputs: &[&str], results: &str, at: &str) {
             let got = archive.outcome(&Call::Scrub { sheet: bytes(sheet), pack: bytes(pack), out: bytes(out) });
             format!("{}\t{}", outcome(got.answer), or_dash(hex(&got.buffer).to_lowercase()))
         }
+        ["lookup", _, label, main, backup] => lookup_told(archive, &bytes(label), &bytes(main), &bytes(backup)),
         ["pmd_read", _, kind, value, numbers] => {
             let got =
                 archive.outcome(&Call::PmdRead { kind: number(kind), value: bytes(value), numbers: list(numbers) });
@@ -110,6 +111,21 @@ fn names(results: &str) -> Vec<Name> {
     labels.chain(list(numbers).into_iter().map(Name::Number)).collect()
 }
 
+/// The stretch that was found, whose bytes must be those of its pack; that of a refusal is empty.
+fn lookup_told(archive: &mut Archive, label: &[u8], main: &[u8], backup: &[u8]) -> String {
+    let (main, backup, label) = (main.to_vec(), backup.to_vec(), label.to_vec());
+    let got = archive.outcome(&Call::Lookup { main: main.clone(), backup: backup.clone(), label });
+    let (from, start) = got.found();
+    let (mark, pack) = [("neither", &[][..]), ("main", &main), ("backup", &backup)][from as usize];
+    if got.answer.number != 0 {
+        assert_eq!(got.buffer, found_buffer(&main, &backup, (from, 0), &[]));
+        return format!("{} {mark}", outcome(got.answer));
+    }
+    let value = &pack[start as usize..][..got.answer.value as usize];
+    assert_eq!(got.buffer, found_buffer(&main, &backup, (from, start), value));
+    format!("ok {mark} {start} {}", value.len())
+}
+
 fn gain_told(got: Outcome) -> String {
     match got.answer {
         Answer { number: 0, value } if value >> 32 == 1 => "ok muted".to_string(),
@@ -153,7 +169,7 @@ fn or_dash(text: String) -> String {
 
 #[test]
 fn requests() {
-    run("2026-02.tsv");
+    run("2026-03.tsv");
 }
 
 #[test]

@@ -6,10 +6,12 @@ use Rattle.runs.proofs.Cases.{one}
 use Rattle.refusals.proofs.One.{lends-one}
 use Rattle.pack.specs.Reading.{checked}
 use Rattle.scrub_kept.specs.Sheet.{sheetChecked}
+use Rattle.lookup.specs.Lookup.{lookedUp}
 use Rattle.pmd.specs.Gain.{levelOf}
-use Rattle.ballastwren.specs.Told.{toldOf, toldGainOf, BwRead, BwScrub, BwPmdRead, BwPmdWrite}
+use Rattle.ballastwren.specs.Told.{toldOf, toldFoundOf, toldGainOf, BwRead, BwScrub, BwPmdRead, BwPmdWrite}
 use Rattle.ballastwren.specs.Version.{version}
 use Rattle.ballastwren.specs.declared.Told.{Told}
+use Rattle.ballastwren.specs.declared.ToldFound.{ToldFound}
 use Rattle.ballastwren.specs.declared.ToldGain.{ToldGain}
 
 pub bw-check-one : (pack : List ℕ) (a b : Told) → a ≡ toldOf (checked pack) → b ≡ toldOf (checked pack) → a ≡ b
@@ -25,6 +27,9 @@ bw-scrub-one sheet pack before us vs a b = lends-one
 
 pub bw-sheet-check-one : (sheet : List ℕ) (a b : Told) → a ≡ toldOf (sheetChecked sheet) → b ≡ toldOf (sheetChecked sheet) → a ≡ b
 bw-sheet-check-one sheet a b = one
+
+pub bw-lookup-one : (main backup l : List ℕ) (a b : ToldFound) → a ≡ toldFoundOf (lookedUp main backup l) → b ≡ toldFoundOf (lookedUp main backup l) → a ≡ b
+bw-lookup-one main backup l a b = one
 
 pub bw-pmd-read-one : (kind : ℕ) (value before us vs : List ℕ) (a b : Told)
     → BwPmdRead kind value before a us → BwPmdRead kind value before b vs

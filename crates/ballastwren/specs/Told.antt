@@ -1,23 +1,40 @@
--- Trusted. What C is told, document 01's numbers, and what each export that is lent a run promises.
+-- Trusted. What C is told, the numbers of documents 01 and 02, and what each export that is lent a run promises.
 use mathlib.Core.Bool.{cond}
 use mathlib.Core.List.{List}
 use Prim.Native.Nat.{ℕ}
 use lib.ListN.{length}
+use Rattle.refusals.specs.Refusals.{numberOf}
 use Rattle.refusals.specs.Outcomes.{told}
 use Rattle.refusals.specs.declared.Answer.{Answer}
 use Rattle.refusals.specs.Lent.{within, lent, Lends}
 use Rattle.pack_rows.specs.Rows.{rowsRead}
 use Rattle.scrub_kept.specs.Scrubbed.{scrubbed, leaves}
+use Rattle.lookup.specs.declared.Mark.{Mark}
+use Rattle.lookup.specs.declared.Mark.the-variants as M
+use Rattle.lookup.specs.declared.Found.{Found}
+use Rattle.lookup.specs.declared.Found.the-variants as F
 use Rattle.pmd.specs.Reading.{fieldsRead}
 use Rattle.pmd.specs.Writing.{fieldsWritten}
 use Rattle.pmd.specs.Gain.{toldLevel}
 use Rattle.pmd.specs.declared.Level.{Level}
 use Rattle.ballastwren.specs.declared.Told.{Told}
+use Rattle.ballastwren.specs.declared.ToldFound.{ToldFound}
 use Rattle.ballastwren.specs.declared.ToldGain.{ToldGain}
 
 -- an answer as its two numbers
 abbrev pub toldOf : Answer → Told
 toldOf a = record { number = (told a) .number; value = (told a) .value }
+
+-- the mark of a pack: 1 for main, 2 for backup, 0 for neither
+abbrev pub markNumber : Mark → ℕ
+markNumber M.Neither = 0
+markNumber M.Main = 1
+markNumber M.Backup = 2
+
+-- what was looked up, as its four numbers: where a value stands, or a refusal with the pack at fault and an empty stretch
+abbrev pub toldFoundOf : Found → ToldFound
+toldFoundOf (F.At mark start len) = record { number = 0; value = len; from = markNumber mark; start = start }
+toldFoundOf (F.Refused why place mark) = record { number = numberOf why; value = place; from = markNumber mark; start = 0 }
 
 -- a level as its three numbers: 1 where it is muted
 abbrev pub toldGainOf : Level → ToldGain

@@ -3,9 +3,12 @@
 ghost use mathlib.Core.Path.{_≡_};
 ghost use Rattle.pack.specs.Reading.{checked};
 ghost use Rattle.scrub_kept.specs.Sheet.{sheetChecked};
+ghost use Rattle.lookup.specs.Lookup.{lookedUp};
 ghost use Rattle.pmd.specs.Gain.{levelOf};
-ghost use Rattle.ballastwren.specs.Told.{toldOf, toldGainOf, BwRead, BwScrub, BwPmdRead, BwPmdWrite};
+ghost use Rattle.ballastwren.specs.Told.{toldOf, markNumber, toldFoundOf, toldGainOf, BwRead, BwScrub, BwPmdRead, BwPmdWrite};
 ghost use Rattle.ballastwren.specs.Version.{version};
+use lookup::Found;
+use lookup::Mark;
 use pmd::Level;
 use refusals::Answer;
 
@@ -14,6 +17,16 @@ use refusals::Answer;
 pub struct Told {
     pub number: u64,
     pub value: u64,
+}
+
+// What was looked up, for C: number 0 and `value` bytes from `start` on of main, `from` 1, or of backup, `from` 2; or a refusal's number, its place in
+// `value`, the pack at fault in `from`, 0 for neither, and `start` 0.
+#[repr(C)]
+pub struct ToldFound {
+    pub number: u64,
+    pub value: u64,
+    pub from: u64,
+    pub start: u64,
 }
 
 // A gain for C: number 0 and either muted 1 or so many half decibels, or a refusal's number and two zeros.
@@ -27,7 +40,7 @@ pub struct ToldGain {
 // The version, as include/ballastwren.h has it.
 const MAJOR: u32 = 0;
 
-const MINOR: u32 = 5;
+const MINOR: u32 = 6;
 
 const PATCH: u32 = 0;
 
@@ -50,6 +63,38 @@ fn told_answer(a: Answer) -> Told
             Told {
                 number: wide(n),
                 value: place as u64,
+            }
+        }
+    }
+}
+
+fn mark_number(mark: Mark) -> u64
+    ensures { λ r. ⌜ r ≡ markNumber mark ⌝ }
+{
+    match mark {
+        Mark::Neither => 0,
+        Mark::Main => 1,
+        Mark::Backup => 2,
+    }
+}
+
+fn told_found(found: Found) -> ToldFound
+    ensures { λ r. ⌜ r ≡ toldFoundOf found ⌝ }
+{
+    match found {
+        Found::At { from, start, len } => ToldFound {
+            number: 0,
+            value: len as u64,
+            from: mark_number(from),
+            start: start as u64,
+        },
+        Found::Refused { why, place, from } => {
+            let n = refusals::number(why);
+            ToldFound {
+                number: wide(n),
+                value: place as u64,
+                from: mark_number(from),
+                start: 0,
             }
         }
     }
@@ -91,6 +136,16 @@ pub extern "C" fn bw_sheet_check(sheet: &[u8]) -> Told
 {
     let a = scrub_sheet::check(sheet);
     told_answer(a)
+}
+
+// Looks a label up in two packs. Answers where the value of its first payload stands, in main or, if main has none, in backup; or the refusal: those of
+// bw_check for main, those for backup, then ABSENT, also for a label that is not of 16 bytes.
+#[no_mangle]
+pub extern "C" fn bw_lookup(main: &[u8], backup: &[u8], label: &[u8]) -> ToldFound
+    ensures { λ r. ⌜ r ≡ toldFoundOf (lookedUp (now (main .entry)) (now (backup .entry)) (now (label .entry))) ⌝ }
+{
+    let found = lookup::lookup(main, backup, label);
+    told_found(found)
 }
 
 // Reads a PMD value of this kind into `numbers`, all its fields in order. Answers how many numbers were written, or the refusal: KIND, BIG, those of

@@ -1,4 +1,4 @@
--- The calls of each function meet the demands, by the page of promises: where both are made, and where the first is refused.
+-- The calls of each function meet the demands, by the page of promises: where all are made, and where the first of two is refused.
 use mathlib.Core.Path.{_≡_, refl, subst}
 use mathlib.Core.List.{List}
 use Prim.Native.Nat.{ℕ, _-_}
@@ -7,12 +7,14 @@ use lib.ListN.{take}
 use Rattle.runs.specs.Digits.{Bytes}
 use Rattle.pack.specs.Reading.{checked}
 use Rattle.scrub_kept.specs.Sheet.{sheetChecked}
+use Rattle.lookup.specs.Lookup.{lookedUp}
 use Rattle.pmd.specs.Gain.{levelOf}
-use Rattle.ballastwren.specs.Told.{toldOf, toldGainOf, BwRead, BwScrub, BwPmdRead, BwPmdWrite}
+use Rattle.ballastwren.specs.Told.{toldOf, toldFoundOf, toldGainOf, BwRead, BwScrub, BwPmdRead, BwPmdWrite}
 use Rattle.ballastwren.specs.declared.Told.{Told}
+use Rattle.ballastwren.specs.declared.ToldFound.{ToldFound}
 use Rattle.ballastwren.specs.declared.ToldGain.{ToldGain}
 use Rattle.promises.proofs.Promises as promises
-use Rattle.demands.specs.Demands.{Unchanged, InTurn, ScrubTwo, ScrubAndRead, ReadAndWrite, WriteAndRead, CheckAndRead, CheckSheetAndScrub, TellGain}
+use Rattle.demands.specs.Demands.{Unchanged, InTurn, ScrubTwo, ScrubAndRead, ReadAndWrite, WriteAndRead, CheckAndRead, CheckSheetAndScrub, CheckAndLookUp, TellGain}
 
 -- TWO CALLS IN TURN
 
@@ -83,6 +85,22 @@ check-then-scrub sheet s bytes x y =
       accepted = alike .1;
       entries = counts .0;
       all = counts .1;
+    }
+
+pub check-then-look-up : (main backup l : List ℕ) {c d : Told} {a : ToldFound} → Bytes main → Bytes backup
+    → c ≡ toldOf (checked main) → d ≡ toldOf (checked backup) → a ≡ toldFoundOf (lookedUp main backup l) → CheckAndLookUp main backup l c d a
+check-then-look-up main backup l m b p q x =
+    let order = promises.lookup-refused main backup l x p q in
+    record {
+      mainChecked = p;
+      backupChecked = q;
+      call = x;
+      first = promises.lookup-first main backup l x m b;
+      mainRefused = order .0;
+      backupRefused = order .1;
+      otherwise = order .2;
+      absent = promises.absent-exactly main backup l x m b;
+      strange = promises.label-of-sixteen main backup l x p q;
     }
 
 -- PMD VALUES

@@ -9,8 +9,9 @@ use Rattle.runs.proofs.Cases.{split, one}
 use Rattle.refusals.proofs.One.{lends-one}
 use Rattle.ballastwren.specs.Told.{BwRead, BwScrub, BwPmdRead, BwPmdWrite}
 use Rattle.ballastwren.specs.declared.Told.{Told}
+use Rattle.ballastwren.specs.declared.ToldFound.{ToldFound}
 use Rattle.ballastwren.specs.declared.ToldGain.{ToldGain}
-use Rattle.demands.specs.Demands.{InTurn, ScrubTwo, ScrubAndRead, ReadAndWrite, WriteAndRead, CheckAndRead, CheckSheetAndScrub, TellGain}
+use Rattle.demands.specs.Demands.{InTurn, ScrubTwo, ScrubAndRead, ReadAndWrite, WriteAndRead, CheckAndRead, CheckSheetAndScrub, CheckAndLookUp, TellGain}
 
 -- two calls in turn, each of which has one outcome
 in-turn-one : (First : Told → List ℕ → Type 0) (Second : List ℕ → Told → List ℕ → Type 0) {D E : Type 0} {before run xs ys us vs : List ℕ} {a b c d : Told}
@@ -53,6 +54,10 @@ check-and-read-one pack run us vs a b c d p q = (one (p .first) (q .first), lend
 pub check-sheet-and-scrub-one : (sheet s before us vs : List ℕ) (a b c d : Told)
     → CheckSheetAndScrub sheet s before a b us → CheckSheetAndScrub sheet s before c d vs → (a ≡ c) × ((b ≡ d) × (us ≡ vs))
 check-sheet-and-scrub-one sheet s before us vs a b c d p q = (one (p .first) (q .first), lends-one (p .second) (q .second))
+
+pub check-and-look-up-one : (main backup l : List ℕ) (c d e f : Told) (a b : ToldFound)
+    → CheckAndLookUp main backup l c d a → CheckAndLookUp main backup l e f b → (c ≡ e) × ((d ≡ f) × (a ≡ b))
+check-and-look-up-one main backup l c d e f a b p q = (one (p .mainChecked) (q .mainChecked), (one (p .backupChecked) (q .backupChecked), one (p .call) (q .call)))
 
 pub tell-gain-one : (gain : ℕ) (a b : ToldGain) → TellGain gain a → TellGain gain b → a ≡ b
 tell-gain-one gain a b p q = one (p .call) (q .call)

@@ -1,6 +1,7 @@
--- Trusted. The demands of document 01, of what C is told by one or two calls and of what the lent runs hold afterwards.
+-- Trusted. The demands of document 01 and the requests of document 02, of what C is told by one call or a few and of what the lent runs hold afterwards.
 use mathlib.Core.Path.{_≡_}
 use mathlib.Core.List.{List}
+use mathlib.Core.Logic.{_⊎_}
 use Prim.Native.Nat.{ℕ, _+_, _*_, _<_, _≤_}
 use lib.IntN.{pos, _-ℤ_}
 use lib.ListN.{length, take}
@@ -17,10 +18,14 @@ use Rattle.pack_layout.specs.Refused.{Refused}
 use Rattle.scrub_kept.specs.Sheet.{Sheet, these, allSheet, sheetOf, sheetChecked}
 use Rattle.scrub_kept.specs.Kept.{keptItems, kept}
 use Rattle.scrub_kept.specs.Scrubbed.{ReadsAs}
+use Rattle.lookup.specs.Lookup.{lookedUp}
+use Rattle.lookup.specs.Named.{Without, Says}
 use Rattle.pmd.specs.Gain.{levelOf}
 use Rattle.ballastwren.specs.declared.Told.{Told}
+use Rattle.ballastwren.specs.declared.ToldFound.{ToldFound}
 use Rattle.ballastwren.specs.declared.ToldGain.{ToldGain}
-use Rattle.ballastwren.specs.Told.{toldOf, toldGainOf, BwRead, BwScrub, BwPmdRead, BwPmdWrite}
+use Rattle.ballastwren.specs.Looked.{FirstTold, absentTold}
+use Rattle.ballastwren.specs.Told.{toldOf, toldFoundOf, toldGainOf, BwRead, BwScrub, BwPmdRead, BwPmdWrite}
 
 -- THE DEMANDS
 
@@ -116,6 +121,20 @@ pub record CheckSheetAndScrub (sheet s before : List ℕ) (a b : Told) (out : Li
   pub accepted : a .number ≡ 0 → b .number ≡ 14 → ⊥
   pub entries : (ls : List (List ℕ)) (ts : List ℕ) → sheetOf sheet ≡ fine (these ls ts) → a ≡ record { number = 0; value = length ls + length ts }
   pub all : sheet ≡ allSheet → a ≡ record { number = 0; value = 0 }
+
+-- check_and_look_up: two packs are checked, and a label is looked up in them. A refusal of main's check is the look-up's, with the mark 1; then one of
+-- backup's, with the mark 2. Else a value is found, that of the label's first payload in main or, where main has none, in backup; or ABSENT is told, exactly
+-- where no payload of either has the label, and always of a label that is not of 16 bytes
+pub record CheckAndLookUp (main backup l : List ℕ) (c d : Told) (a : ToldFound) : Type 0 where
+  pub mainChecked : c ≡ toldOf (checked main)
+  pub backupChecked : d ≡ toldOf (checked backup)
+  pub call : a ≡ toldFoundOf (lookedUp main backup l)
+  pub first : a .number ≡ 0 → FirstTold main backup l a
+  pub mainRefused : (c .number ≡ 0 → ⊥) → a ≡ record { number = c .number; value = c .value; from = 1; start = 0 }
+  pub backupRefused : c .number ≡ 0 → (d .number ≡ 0 → ⊥) → a ≡ record { number = d .number; value = d .value; from = 2; start = 0 }
+  pub otherwise : c .number ≡ 0 → d .number ≡ 0 → (a .number ≡ 0) ⊎ (a ≡ absentTold)
+  pub absent : (a ≡ absentTold → Says main (Without l) × Says backup (Without l)) × (Says main (Without l) → Says backup (Without l) → a ≡ absentTold)
+  pub strange : (length l ≡ 16 → ⊥) → c .number ≡ 0 → d .number ≡ 0 → a ≡ absentTold
 
 -- tell_gain: a gain is muted at 0, else gain minus 51 in half decibels; above 63 it is FIELD
 pub record TellGain (gain : ℕ) (t : ToldGain) : Type 0 where

@@ -1,13 +1,21 @@
-// The demands of document 01 as functions over what C calls: each calls exports, and its contract says which, of what, and the demands that they meet.
-// An export that promised less would leave its function here without a proof.
-ghost use Rattle.demands.specs.Demands.{ScrubTwo, ScrubAndRead, ReadAndWrite, WriteAndRead, CheckAndRead, CheckSheetAndScrub, TellGain};
+// The demands of document 01 and the requests of document 02 as functions over what C calls: each calls exports, and its contract says which, of what, and
+// the demands that they meet. An export that promised less would leave its function here without a proof.
+ghost use Rattle.demands.specs.Demands.{ScrubTwo, ScrubAndRead, ReadAndWrite, WriteAndRead, CheckAndRead, CheckSheetAndScrub, CheckAndLookUp, TellGain};
 use ballastwren::Told;
+use ballastwren::ToldFound;
 use ballastwren::ToldGain;
 
 // What two calls tell, one after the other.
 pub struct Two {
     pub first: Told,
     pub second: Told,
+}
+
+// What two checks and a look-up tell.
+pub struct Looked {
+    pub main: Told,
+    pub backup: Told,
+    pub found: ToldFound,
 }
 
 // Scrubs two packs by one sheet, each into a buffer of its own.
@@ -83,6 +91,20 @@ pub fn check_sheet_and_scrub(sheet: &[u8], pack: &[u8], out: &mut [u8]) -> Two
     let first = ballastwren::bw_sheet_check(sheet);
     let second = ballastwren::bw_scrub(sheet, pack, &mut *out);
     Two { first, second }
+}
+
+// Checks two packs, and looks a label up in them.
+pub fn check_and_look_up(main: &[u8], backup: &[u8], label: &[u8]) -> Looked
+    ensures { λ r. ⌜ CheckAndLookUp (now (main .entry)) (now (backup .entry)) (now (label .entry)) (r .main) (r .backup) (r .found) ⌝ }
+{
+    let first = ballastwren::bw_check(main);
+    let second = ballastwren::bw_check(backup);
+    let found = ballastwren::bw_lookup(main, backup, label);
+    Looked {
+        main: first,
+        backup: second,
+        found,
+    }
 }
 
 // Tells what a gain means.

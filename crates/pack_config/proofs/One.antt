@@ -20,7 +20,7 @@ indexed-apart (suc i) zero t e = absurd-eq (cc)
 indexed-apart (suc i) (suc j) t e = ap suc (cc)
 
 -- so there is one index of some tags
-index-one : (tags : List ℕ) {a b : List ℕ} → Knows tags a → Knows tags b → length a ≡ 128 → length b ≡ 128 → a ≡ b
+pub index-one : (tags : List ℕ) {a b : List ℕ} → Knows tags a → Knows tags b → length a ≡ 128 → length b ≡ 128 → a ≡ b
 index-one tags {a} {b} g h l m = ext-getD 0 a b (one l m) (λ i d. indexed-apart _ _ i (sym (g i (omega arith)) ∙ h i (omega arith)))
 
 pub maps-one : (o : Outcome (List Mapping)) (a b : Answer) (ts ps ks us qs ls : List ℕ) → MapsRead o a ts ps ks → MapsRead o b us qs ls

@@ -2,11 +2,11 @@
 use mathlib.Core.Path.{_≡_, refl, sym, ap, subst, _∙_}
 use mathlib.Core.List.{List, [], _∷_, map}
 use mathlib.Core.Bool.{Bool}
-use Prim.Native.Nat.{ℕ, suc, _+_, _-_, _^_, _<_, _≤_, min}
+use Prim.Native.Nat.{ℕ, zero, suc, _+_, _-_, _^_, _<_, _≤_, min}
 use native.Mathlib.Nat.{zero-add, suc-add, add-suc}
 use native.Mathlib.Omega.{arith}
 use lib.Dec.{eqb}
-use lib.ListN.{length, take, drop, length-take, length-drop, length-map}
+use lib.ListN.{length, take, drop, getD, length-take, length-drop, length-map}
 use Rattle.runs.specs.Those.{Each}
 use Rattle.runs.proofs.Those.{each-map}
 use Rattle.runs.specs.Digits.{Bytes}
@@ -14,6 +14,7 @@ use Rattle.runs.proofs.Cases.{split}
 use Rattle.runs.proofs.Below.{below-take}
 use Rattle.runs.proofs.Stands.{stands-within}
 use Rattle.refusals.specs.Outcomes.{fine}
+use Rattle.refusals.proofs.Outcomes.{then-was}
 use Rattle.numbers.proofs.Big.{big-lt}
 use Rattle.pack.specs.Fixed.{packCap, itemCap, mappingCap}
 use Rattle.pack.specs.declared.Name.{Name}
@@ -24,17 +25,18 @@ use Rattle.pack.specs.declared.Item.{Item}
 use Rattle.pack.specs.declared.Item.the-variants as I
 use Rattle.pack.specs.declared.Slot.{Slot}
 use Rattle.pack.specs.Payloads.{nameFrom, nameOf}
-use Rattle.pack.specs.Config.{Mapping}
+use Rattle.pack.specs.Config.{Mapping, labelsOf, placesOf}
 use Rattle.pack.specs.Items.{Part, one, many, syncHead, countOf}
-use Rattle.pack.specs.Reading.{Read, reading}
+use Rattle.pack.specs.Reading.{Read, Opening, valueStart, openingAt, reading}
 use Rattle.pack.specs.Slots.{slots}
 use Rattle.pack.proofs.Slots.{PartItems, slots-each}
 use Rattle.pack.proofs.Payloads.{payload-within}
+use Rattle.pack.proofs.Turns.{opening}
 use Rattle.pack_layout.specs.Well.{WellEntries}
 use Rattle.pack_layout.proofs.Parts.{part-bytes}
 use Rattle.pack_layout.proofs.Elements.{payload-laid}
 use Rattle.pack_layout.proofs.Accepts.{InnersRead, noneInside, nextInside, ItemsRead, ended, closed, nextPlain, nextSync}
-use Rattle.pack_layout.proofs.Opens.{mappingOf, MappingsRead, noneMapped, nextMapped, OpeningRead, noConfigRead, configRead, reading-of}
+use Rattle.pack_layout.proofs.Opens.{mappingOf, MappingsRead, noneMapped, nextMapped, OpeningRead, noConfigRead, configRead, opening-of, reading-of}
 use Rattle.pack_layout.proofs.Counts.{items-count, mappings-count}
 use Rattle.pack_layout.proofs.Entries.{entryOf}
 use Rattle.pack_layout.proofs.Described.{entries-well}
@@ -79,6 +81,13 @@ slots-lie s mapped ps h = slots-each (ItemLies s mapped) ps (each-map items ps h
 pub record LabelLies (s : List ℕ) (m : Mapping) : Type 0 where
   pub ends : m .place + 16 ≤ length s
   pub is : m .stands ≡ take 16 (drop (m .place) s)
+
+-- the label of a mapping, at its place among the places
+pub label-at : (s : List ℕ) (ms : List Mapping) (i : ℕ) → Each (LabelLies s) ms → i < length ms
+    → (take 16 (drop (getD (placesOf ms) i 0) s) ≡ getD (labelsOf ms) i []) × (getD (placesOf ms) i 0 + 16 ≤ length s)
+label-at s [] i h g = absurd (omega arith)
+label-at s (m ∷ ms) zero h g = (sym (h .0 .is), h .0 .ends)
+label-at s (m ∷ ms) (suc i) h g = label-at s ms i (h .1) (omega arith)
 
 -- what is known of a pack that is accepted
 pub record Accepted (s : List ℕ) (r : Read) : Type 0 where
@@ -142,6 +151,14 @@ unfolding WellEntries
 opening-lies s b (noConfigRead none) = (omega arith, omega arith, tt, tt)
 opening-lies s b (configRead v l e h r) =
     (big-lt s v 2 b, omega (arith, mappings-count r (omega arith)), labels-lie s (v + l) refl r, entries-well (below-take 256 (v + l) s b) r tt)
+
+-- of a pack that opens, whatever its items
+pub opening-bounds : (s : List ℕ) → Bytes s → {o : Opening} → opening s ≡ fine o
+    → (length (o .mappings) ≤ mappingCap) × Each (LabelLies s) (o .mappings) × WellEntries (map entryOf (o .mappings))
+opening-bounds s b {o} h =
+    let w = then-was (valueStart s) (openingAt s) h in
+    let lies = opening-lies s b (opening-of s (w .0) o (w .2)) in
+    (lies .1, lies .2, lies .3)
 
 pub reading-bounds : (s : List ℕ) → Bytes s → (r : Read) → reading s ≡ fine r → Accepted s r
 reading-bounds s b r h =

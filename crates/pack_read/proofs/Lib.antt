@@ -2,4 +2,4 @@ pub mod One
 pub mod Outlines
 mod Slots
 mod Listing
-mod Opening
+pub mod Opening

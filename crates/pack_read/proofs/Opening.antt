@@ -96,7 +96,7 @@ shown-by x t (fine b) =
 shown-by x t (refused why p) = refl
 
 module _ (s : List ℕ) {r : Opened} {tags places known : List ℕ} (g : Opens (opening s) r tags places known) where
-  whole-refused : {why : Refusal} {p : ℕ} → r ≡ O.Refused why p → reading s ≡ refused why p
+  pub whole-refused : {why : Refusal} {p : ℕ} → r ≡ O.Refused why p → reading s ≡ refused why p
   whole-refused e = reading-opens s ∙ then-refused (readFrom s) (told-refused (opening s) (sym e ∙ g .told))
 
   pub outlined-refused : {why : Refusal} {p : ℕ} {o : Outline} {slots : List ℕ} → r ≡ O.Refused why p → o ≡ outlineOf (shown (refused why p)) → slots ≡ replicate 512 0
@@ -110,7 +110,13 @@ module _ (s : List ℕ) {r : Opened} {tags places known : List ℕ} (g : Opens (
     from : (P : Type 0) → ((x : Opening) → opening s ≡ fine x → Tables (x .mappings) tags places known → f ≡ x .offset → m ≡ length (x .mappings) → n ≡ x .next → P) → P
     from P k = told-from (opening s) P (sym e ∙ g .told) (λ x q a b d. k x q (subst (λ (o : Outcome Opening). Tables (opensWith o) tags places known) q (g .tables)) a b d)
 
-    opened-small : length s ≤ 32768
+    -- the opening that it is
+    pub opened-from : (x : Opening) × (opening s ≡ fine x) × Tables (x .mappings) tags places known × (m ≡ length (x .mappings)) × (n ≡ x .next)
+    opened-from =
+        from ((x : Opening) × (opening s ≡ fine x) × Tables (x .mappings) tags places known × (m ≡ length (x .mappings)) × (n ≡ x .next))
+        (λ x q t a b d. (x, q, t, b, d))
+
+    pub opened-small : length s ≤ 32768
     opened-small = from (length s ≤ 32768) (λ x q t a b d. small s (valueStart s) refl q)
 
     -- the first m places of the tables hold the mappings

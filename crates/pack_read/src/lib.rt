@@ -244,7 +244,12 @@ fn read_items(
 }
 
 // How the pack opens. The mappings go into the three tables, which come empty.
-fn open(pack: &[u8], tags: &mut [u32; 32], places: &mut [u32; 32], known: &mut [u8; 128]) -> Opened
+pub fn open(
+    pack: &[u8],
+    tags: &mut [u32; 32],
+    places: &mut [u32; 32],
+    known: &mut [u8; 128],
+) -> Opened
     requires { ⌜ Empty (now tags) (now places) (now known) ⌝ }
     ensures { λ r. ⌜ Opens (andThen (valueStart (now (pack .entry))) (openingAt (now (pack .entry)))) r (now (tags .exit)) (now (places .exit)) (now (known .exit)) ⌝ }
 {

@@ -20,7 +20,7 @@ use Rattle.pack.specs.declared.Payload.{Payload}
 use Rattle.pack.specs.declared.Item.{Item}
 use Rattle.pack.specs.declared.Item.the-variants as I
 use Rattle.pack.specs.declared.Slot.{Slot}
-use Rattle.pack_layout.proofs.Bounds.{NameFits, ItemLies, slots-lie, LabelLies, Accepted}
+use Rattle.pack_layout.proofs.Bounds.{NameFits, ItemLies, slots-lie, LabelLies, label-at, Accepted}
 use Rattle.pack_text.specs.Text.{line, syncFields, namedLine, payloadLine, payloadLines, partLines}
 use Rattle.pack_text.specs.Slots.{itemLine, slotLines, NameStands, ItemStands, SlotsStand}
 
@@ -55,13 +55,8 @@ module _ (s places : List ℕ) (k : ℕ) where
 
 -- labels that stand in the pack
 module _ (s : List ℕ) (ms : List Mapping) (few : length ms ≤ mappingCap) (lie : Each (LabelLies s) ms) (k : ℕ) where
-  label-stands : (ns : List Mapping) → Each (LabelLies s) ns → (i : ℕ) → i < length ns → getD (placesOf ns) i 0 + 16 ≤ length s
-  label-stands [] h i l = absurd (omega arith)
-  label-stands (m ∷ ns) h zero l = h .0 .ends
-  label-stands (m ∷ ns) h (suc i) l = label-stands ns (h .1) i (omega arith)
-
   name-stands : (n : Name) → NameFits (length ms) n → NameStands s (placesOf ms ++ replicate k 0) n
-  name-stands (Label i) h = (omega arith, rw place-padded (label-stands ms lie i h))
+  name-stands (Label i) h = (omega arith, rw place-padded (label-at s ms i lie h .1))
   name-stands (Number t) h = tt
 
   item-stands : (y : Item) → ItemLies s (length ms) y → ItemStands s (placesOf ms ++ replicate k 0) y

@@ -4,7 +4,7 @@ ghost use Rattle.pack.specs.Meaning.{stretchIn, valueOf, labelAt};
 use pack::Payload;
 
 // The stretch of so many bytes from `start` on: no bytes, if it does not lie in the pack.
-fn stretch(pack: &[u8], start: usize, len: usize) -> &[u8]
+pub fn stretch(pack: &[u8], start: usize, len: usize) -> &[u8]
     ensures { λ r. ⌜ now r ≡ stretchIn (now (pack .entry)) start len ⌝ }
 {
     if pack.len() < start {

@@ -47,6 +47,7 @@ use Rattle.pack_layout.proofs.Sound as sound
 use Rattle.pack_layout.proofs.Refusals as refused-packs
 use Rattle.runs.specs.Those.{those, Each}
 use Rattle.runs.proofs.Those.{those-pass}
+use Rattle.runs.proofs.Cases.{one}
 use Rattle.numbers.specs.Big.{bigAt}
 use Rattle.scrub_kept.specs.Sheet.{Sheet, everything, these, allSheet, sheetOf, sheetChecked}
 use Rattle.scrub_kept.specs.Kept.{keptItems, kept}
@@ -60,19 +61,25 @@ use Rattle.scrub_kept.proofs.Keeping as keeping
 use Rattle.scrub_kept.proofs.Sheets as sheets
 use Rattle.scrub_kept.proofs.Scrubbing as scrubbing
 use Rattle.scrub_kept.proofs.ReadBack as back
+use Rattle.lookup.specs.declared.Found.{Found}
+use Rattle.lookup.specs.Lookup.{lookedUp, partOf}
+use Rattle.lookup.specs.Named.{Without, Says}
 use Rattle.pmd.specs.Reading as pmd
 use Rattle.pmd.specs.Writing.{fieldsWritten}
 use Rattle.pmd.specs.Gain.{levelOf}
 use Rattle.pmd.proofs.RoundTrips as trips
 use Rattle.pmd.proofs.Levels as levels
-use Rattle.ballastwren.specs.Told.{toldOf, toldGainOf, BwRead, BwScrub, BwPmdRead, BwPmdWrite}
+use Rattle.ballastwren.specs.Told.{toldOf, toldFoundOf, toldGainOf, BwRead, BwScrub, BwPmdRead, BwPmdWrite}
+use Rattle.ballastwren.specs.Looked.{FirstTold, PartTold, absentTold}
 use Rattle.ballastwren.specs.Version.{version}
 use Rattle.ballastwren.specs.declared.Told.{Told}
+use Rattle.ballastwren.specs.declared.ToldFound.{ToldFound}
 use Rattle.ballastwren.specs.declared.ToldGain.{ToldGain}
 use Rattle.promises.specs.Starts.{AllStand}
 use Rattle.promises.proofs.Starts as starts
 use Rattle.ballastwren.proofs.Checks as checks
 use Rattle.ballastwren.proofs.SheetChecks as sheet-checks
+use Rattle.ballastwren.proofs.Lookups as lookups
 use Rattle.ballastwren.proofs.Edge as edge
 use Rattle.ballastwren.proofs.Most as most
 use Rattle.ballastwren.proofs.One as exports
@@ -291,6 +298,47 @@ pub rest-cleared : (sheet s : List ℕ) {before after : List ℕ} {a : Told} →
 rest-cleared sheet s {before} {after} {a} x done =
     ap (drop (a .value)) (x .run) ∙ scrubbing.done-rest before (scrubbed sheet s (length before)) (a .value) (edge.answer-done x done)
 
+-- LOOKING UP A LABEL
+-- `bw_lookup`, handed two packs and a label l, tells C the four numbers `toldFoundOf (lookedUp main backup l)`. `value` of crates/lookup, handed the same,
+-- returns the part `partOf main backup (lookedUp main backup l)` of one of the packs, both of which the caller lends it for one lifetime. A value was found
+-- exactly where the first number is 0.
+
+module _ (main backup l : List ℕ) {a : ToldFound} (x : a ≡ toldFoundOf (lookedUp main backup l)) where
+  -- Two answers on the same packs and label coincide, and so do two parts.
+  pub lookup-one : {b : ToldFound} {u v : List ℕ} → b ≡ toldFoundOf (lookedUp main backup l)
+      → u ≡ partOf main backup (lookedUp main backup l) → v ≡ partOf main backup (lookedUp main backup l) → (a ≡ b) × (u ≡ v)
+  lookup-one {b} y p q = (exports.bw-lookup-one main backup l a b x y, one p q)
+
+  -- A stretch that is told is the value of the first payload of the label in main, in byte order and inside Syncs too; or in backup, where no payload of
+  -- main has the label. Both packs are accepted.
+  pub lookup-first : Bytes main → Bytes backup → a .number ≡ 0 → FirstTold main backup l a
+  lookup-first m b = lookups.lookup-first main backup l m b x
+
+  -- The part that is returned is the very stretch that is told, and lies in the pack that is told. Where none is told, the start is 0 and no byte is
+  -- returned.
+  pub lookup-stretch : {v : List ℕ} → Bytes main → Bytes backup → v ≡ partOf main backup (lookedUp main backup l)
+      → (a .number ≡ 0 → PartTold main backup v a) × ((a .number ≡ 0 → ⊥) → (a .start ≡ 0) × (v ≡ []))
+  lookup-stretch m b = lookups.lookup-stretch main backup l m b x
+
+  -- Both packs are checked first, main before backup, also where main has the label: what `bw_check` tells of a main that it refuses is told with the mark
+  -- 1, else what it tells of a backup that it refuses with the mark 2. Where it accepts both, a value is found, or ABSENT is told: number 20, place 0,
+  -- neither pack, no stretch.
+  pub lookup-refused : {c d : Told} → c ≡ toldOf (checked main) → d ≡ toldOf (checked backup)
+      → ((c .number ≡ 0 → ⊥) → a ≡ record { number = c .number; value = c .value; from = 1; start = 0 })
+      × (c .number ≡ 0 → (d .number ≡ 0 → ⊥) → a ≡ record { number = d .number; value = d .value; from = 2; start = 0 })
+      × (c .number ≡ 0 → d .number ≡ 0 → (a .number ≡ 0) ⊎ (a ≡ absentTold))
+  lookup-refused = lookups.lookup-refused main backup l x
+
+  -- ABSENT is told exactly where both packs are accepted and no payload of either has the label; one that is mapped and that no payload has is absent.
+  pub absent-exactly : Bytes main → Bytes backup
+      → (a ≡ absentTold → Says main (Without l) × Says backup (Without l)) × (Says main (Without l) → Says backup (Without l) → a ≡ absentTold)
+  absent-exactly m b = lookups.absent-exactly main backup l m b x
+
+  -- A label that is not of 16 bytes is ABSENT in any two packs that are accepted.
+  pub label-of-sixteen : {c d : Told} → c ≡ toldOf (checked main) → d ≡ toldOf (checked backup) → (length l ≡ 16 → ⊥) → c .number ≡ 0 → d .number ≡ 0
+      → a ≡ absentTold
+  label-of-sixteen = lookups.label-of-sixteen main backup l x
+
 -- PMD VALUES
 
 -- Writing the fields that were read from an accepted value gives that value back, for every kind.
@@ -330,6 +378,10 @@ pmd-write-room-exactly kind numbers s e = edge.room-told e
 -- What C is told determines the answer and its place: no two answers are told by the same two numbers.
 pub told-apart : (a b : Answer) → toldOf a ≡ toldOf b → a ≡ b
 told-apart = edge.told-apart
+
+-- Nor are two answers of a look-up told by the same four numbers.
+pub found-apart : (a b : Found) → toldFoundOf a ≡ toldFoundOf b → a ≡ b
+found-apart = lookups.found-apart
 
 -- Where C is told a refusal, by any number but 0, every lent run holds what it held before.
 pub read-unchanged : (pack : List ℕ) {before after : List ℕ} {a : Told} → BwRead pack before a after → (a .number ≡ 0 → ⊥) → after ≡ before
@@ -410,6 +462,9 @@ bw-scrub-one = exports.bw-scrub-one
 
 pub bw-sheet-check-one : (sheet : List ℕ) (a b : Told) → a ≡ toldOf (sheetChecked sheet) → b ≡ toldOf (sheetChecked sheet) → a ≡ b
 bw-sheet-check-one = exports.bw-sheet-check-one
+
+pub bw-lookup-one : (main backup l : List ℕ) (a b : ToldFound) → a ≡ toldFoundOf (lookedUp main backup l) → b ≡ toldFoundOf (lookedUp main backup l) → a ≡ b
+bw-lookup-one = exports.bw-lookup-one
 
 pub bw-pmd-read-one : (kind : ℕ) (value before us vs : List ℕ) (a b : Told)
     → BwPmdRead kind value before a us → BwPmdRead kind value before b vs

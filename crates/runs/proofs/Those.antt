@@ -16,10 +16,14 @@ pub each-both : {A : Type 0} {P Q R : A → Type 0} → ((x : A) → P x → Q x
 each-both f [] g h = g
 each-both f (x ∷ xs) g h = (f x (g .0) (h .0), each-both f xs (g .1) (h .1))
 
--- of what a map makes of the elements
+-- of what a map makes of the elements, and back
 pub each-made : {A B : Type 0} (P : B → Type 0) (f : A → B) (xs : List A) → Each P (map f xs) → Each (λ (x : A). P (f x)) xs
 each-made P f [] h = h
 each-made P f (x ∷ xs) h = (h .0, each-made P f xs (h .1))
+
+pub each-on : {A B : Type 0} (P : B → Type 0) (f : A → B) (xs : List A) → Each (λ (x : A). P (f x)) xs → Each P (map f xs)
+each-on P f [] h = h
+each-on P f (x ∷ xs) h = (h .0, each-on P f xs (h .1))
 
 module _ {A : Type 0} (P : A → Type 0) where
   -- of an element

@@ -48,12 +48,6 @@ module _ (s : List ℕ) where
   places-fit [] h = tt
   places-fit (m ∷ ms) h = (h .0 .ends, places-fit ms (h .1))
 
-  pub label-at : (ms : List Mapping) (i : ℕ) → Each (B.LabelLies s) ms → i < length ms
-      → (take 16 (drop (getD (C.placesOf ms) i 0) s) ≡ getD (C.labelsOf ms) i []) × (getD (C.placesOf ms) i 0 + 16 ≤ length s)
-  label-at [] i h g = absurd (omega arith)
-  label-at (m ∷ ms) zero h g = (sym (h .0 .is), h .0 .ends)
-  label-at (m ∷ ms) (suc i) h g = label-at ms i (h .1) (omega arith)
-
   flag-at : (sh : Sheet) (ms : List Mapping) (i : ℕ) → Each (B.LabelLies s) ms → i < length ms
       → getD (flagsOf sh s (C.placesOf ms)) i false ≡ keeps sh (label (getD (C.labelsOf ms) i []))
   flag-at sh [] i h g = absurd (omega arith)
@@ -112,6 +106,6 @@ module _ (s : List ℕ) (r : Read) (a : B.Accepted s r) where
   pub place-right : (i : ℕ) → i < length labels → (take 16 (drop (getD places i 0) s) ≡ getD labels i []) × (getD places i 0 + 16 ≤ length s)
   place-right i h =
       let l = labels-count in
-      let q = label-at s (r .mappings) i (a .labels) (omega arith) in
+      let q = B.label-at s (r .mappings) i (a .labels) (omega arith) in
       let e = getD-padded mappingCap 0 (C.placesOf (r .mappings)) i 0 (omega (arith, places-count)) in
       (ap (λ (p : ℕ). take 16 (drop p s)) e ∙ q .0, let z = q .1 in omega arith)

@@ -1,8 +1,8 @@
 //! A libFuzzer target. An input becomes calls of the archive, and each must have the reference's outcome. The reference
 //! is what is instrumented: the fuzzer looks for inputs that take it another way.
 //!
-//! An input is two bytes, which choose the functions and how a pack is completed, then the pack, keep sheet, PMD value
-//! or numbers. Completing it (key, own length, CRC) lets the fuzzer work on what stands behind them.
+//! An input is two bytes, which choose the functions and how a pack is completed, then the pack, keep sheet, label, PMD
+//! value or numbers. Completing it (key, own length, CRC) lets the fuzzer work on what stands behind them.
 
 use std::sync::{Mutex, OnceLock};
 
@@ -40,7 +40,8 @@ pub unsafe extern "C" fn LLVMFuzzerTestOneInput(data: *const u8, size: usize) ->
 fn calls(input: &[u8]) -> Vec<Call> {
     let (choice, room, rest) = (input[0], usize::from(input[1]), &input[2..]);
     match choice & 7 {
-        0..=2 => pack_calls(pack(choice, rest), room),
+        0 | 1 => pack_calls(pack(choice, rest), room),
+        2 => lookup_calls(choice, room, rest),
         3 | 4 => {
             let (sheet, body) = rest.split_at(room.min(rest.len()));
             let out = vec![0xA5; 40 + body.len()];
@@ -90,6 +91,26 @@ fn pack_calls(pack: Vec<u8>, room: usize) -> Vec<Call> {
         Call::Scrub { sheet: vec![], pack: pack.clone(), out: vec![0xA5; room] },
         Call::Scrub { sheet: none, pack: pack.clone(), out: vec![0xA5; room] },
         Call::Scrub { sheet: few, pack: pack.clone(), out: vec![0xA5; 4 * room] },
+    ]
+}
+
+/// A label of 16 bytes, main, whose size is the input's second byte, and backup; then the two packs swapped, main as
+/// both, and a label that lacks a byte or has one too many.
+fn lookup_calls(choice: u8, room: usize, rest: &[u8]) -> Vec<Call> {
+    let (label, packs) = rest.split_at(rest.len().min(16));
+    let (main, backup) = packs.split_at(packs.len().min(room));
+    let (main, backup) = (&pack(choice, main), &pack(choice, backup));
+    let look = |main: &[u8], backup: &[u8], label: &[u8]| Call::Lookup {
+        main: main.to_vec(),
+        backup: backup.to_vec(),
+        label: label.to_vec(),
+    };
+    vec![
+        look(main, backup, label),
+        look(backup, main, label),
+        look(main, main, label),
+        look(main, backup, &label[..label.len().min(15)]),
+        look(main, backup, &[label, &[0]].concat()),
     ]
 }
 

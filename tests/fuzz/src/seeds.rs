@@ -4,6 +4,7 @@ use std::fs;
 use std::path::PathBuf;
 
 use ballastwren_tests::damage::damaged;
+use ballastwren_tests::lookups::{any_asked, Asked};
 use ballastwren_tests::packs::any_pack;
 use ballastwren_tests::random::Random;
 use ballastwren_tests::sheets::any_sheet_bytes;
@@ -27,7 +28,7 @@ fn main() {
 fn seed(random: &mut Random, index: usize) -> Vec<u8> {
     let kind = random.between(1, 7) as u32;
     let (said, mut pack) = any_pack(random);
-    match index % 6 {
+    match index % 7 {
         0 => [&[0, 64], &pack.bytes()[..]].concat(),
         1 => [&[0, 64], &damaged(random, &mut pack)[..]].concat(),
         // Without key and length, which the target puts before it.
@@ -37,10 +38,22 @@ fn seed(random: &mut Random, index: usize) -> Vec<u8> {
             sheet.truncate(255);
             [&[3, sheet.len() as u8], &sheet[..], &pack.bytes()].concat()
         }
-        4 => [&[5 | (kind as u8) << 3, 200], &any_value(random, kind)[..]].concat(),
+        4 => lookup_seed(random),
+        5 => [&[5 | (kind as u8) << 3, 200], &any_value(random, kind)[..]].concat(),
         _ => {
             let numbers = any_list(random, kind).into_iter().flat_map(|number| (number as u16).to_be_bytes());
             [7 | (kind as u8) << 3, 200].into_iter().chain(numbers).collect()
+        }
+    }
+}
+
+/// A label and two packs, main of at most 255 bytes.
+fn lookup_seed(random: &mut Random) -> Vec<u8> {
+    loop {
+        let Asked { packs, label, .. } = any_asked(random);
+        let [main, backup] = packs.map(|pack| pack.bytes());
+        if label.len() == 16 && main.len() < 256 {
+            return [&[2, main.len() as u8], &label[..], &main, &backup].concat();
         }
     }
 }

@@ -1,0 +1,32 @@
+-- `ballastwren::told_found` meets its contract: each case of what was found is told by four numbers.
+use Prim.Native.Nat.{ℕ}
+use mathlib.Core.Path.{ap, ap₂, sym, _∙_}
+use Rattle.ballastwren.specs.Told.{toldFoundOf}
+use borrow.Author.Needs.{needs}
+use Rattle.ballastwren.proofs.told_found.Statement.{statement}
+use Rattle.ballastwren.proofs.told_found.Tie as tie
+
+returns : tie.Need-returns
+returns c =
+    let f = c .before .before .found in
+    ap (λ (m : ℕ). record { number = 0; value = f .given .0 .1 .1 .0; from = m; start = f .given .0 .1 .0 }) (c .mark-number .ensures)
+    ∙ ap toldFoundOf (sym (f .given .1))
+
+returns-2 : tie.Need-returns-2
+returns-2 c =
+    let f = c .before .before .before .before .found2 in
+    ap₂ (λ (n m : ℕ). record { number = n; value = f .given .0 .1 .0; from = m; start = 0 }) (c .before .wide .ensures ∙ c .before .before .number .ensures) (c .mark-number2 .ensures)
+    ∙ ap toldFoundOf (sym (f .given .1))
+
+pub told-found-spec : {M : Type 1} → statement M
+told-found-spec =
+    tie.close
+    (tie.spec
+    (λ c. search needs)
+    (λ c κs. search needs)
+    (λ c. search needs)
+    (λ c κs. search needs)
+    (λ c κs. search needs)
+    (λ c κs. search needs)
+    returns
+    returns-2)

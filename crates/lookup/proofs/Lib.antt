@@ -1,0 +1,6 @@
+pub mod Steps
+pub mod Seeking
+pub mod Tags
+pub mod Looked
+pub mod Parts
+pub mod Means
