@@ -9,8 +9,7 @@ use Rattle.runs.proofs.Cases.{absurd-eq}
 use Rattle.refusals.specs.declared.Refusal.{Refusal}
 use Rattle.refusals.specs.declared.Answer.{Answer}
 use Rattle.refusals.specs.declared.Answer.the-variants as A
-use Rattle.refusals.specs.Outcomes.{fine, refused}
-use Rattle.pack.specs.Payloads.{innerAt, innersFrom}
+use Rattle.pack.specs.Payloads.{innerAt}
 use Rattle.pack.specs.Items.{Part, itemAt}
 use Rattle.pack.specs.declared.Name.{Name}
 use Rattle.pack.specs.declared.Payload.{Payload}

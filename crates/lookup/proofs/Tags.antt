@@ -8,12 +8,12 @@ use lib.Dec.{eqb}
 use lib.ListN.{length, take, drop, getD, drop-of-length-le}
 use lib.Seq.{drop-cons}
 use native.Mathlib.Numerals.{add-one}
-use borrow.Author.Tests.{eq-eqb, ne-eqb, eqb-true, eqb-false}
+use borrow.Author.Tests.{eq-eqb, ne-eqb, eqb-true}
 use Rattle.runs.specs.Digits.{Bytes}
 use Rattle.runs.specs.Same.{same, among, listed}
 use Rattle.runs.specs.Those.{those, Each}
-use Rattle.runs.proofs.Cases.{split, absurd-eq}
-use Rattle.runs.proofs.Same.{same-true}
+use Rattle.runs.proofs.Cases.{split}
+use Rattle.runs.proofs.Same.{same-true, among-neither, listed-neither}
 use Rattle.runs.proofs.Those.{each-map, each-on}
 use Rattle.refusals.specs.Outcomes.{Outcome, fine, refused, andThen}
 use Rattle.refusals.proofs.Outcomes.{then-fine}
@@ -29,35 +29,19 @@ use Rattle.pack_config.specs.Tables.{Filled, LabelsLie, Tables}
 use Rattle.pack_config.proofs.Tables.{column-is, column-filled}
 use Rattle.pack_layout.specs.Layout.{Entry, entryFor}
 use Rattle.pack_layout.specs.Well.{WellEntries}
-use Rattle.pack_layout.proofs.Entries.{entryTags, entryLabels, entryOf, name-means}
+use Rattle.pack_layout.proofs.Entries.{entryTags, entryLabels, entryOf, name-means, flip-number}
 use Rattle.pack_layout.proofs.Mapped.{tags-entries, labels-entries}
 use Rattle.pack_layout.proofs.Bounds.{LabelLies, opening-bounds}
 use Rattle.lookup.specs.Lookup.{payloadsOf, isLabel, carried}
 use Rattle.lookup.specs.Sought.{firstAt, firstIn, Tells, tagFor, wantedTag, soughtBody, soughtIn}
 use Rattle.lookup.specs.declared.Sought.{Sought}
 
--- neither the first of a list nor one of the others
-among-not : (t x : ℕ) (xs : List ℕ) → among t (x ∷ xs) ≡ false → (eqb x t ≡ false) × (among t xs ≡ false)
-unfolding among
-among-not t x xs h = split (eqb x t) (λ e. let z : true ≡ false = simp e at h in absurd-eq (cc)) (λ e. (e, simp e at h))
-
-listed-not : (l k : List ℕ) (ks : List (List ℕ)) → listed l (k ∷ ks) ≡ false → (same k l ≡ false) × (listed l ks ≡ false)
-unfolding listed
-listed-not l k ks h = split (same k l) (λ e. let z : true ≡ false = simp e at h in absurd-eq (cc)) (λ e. (e, simp e at h))
-
--- equality of numbers, asked the other way round
-same-turned : (t u : ℕ) → eqb t u ≡ true → eqb u t ≡ true
-same-turned t u e = eq-eqb u t (sym (eqb-true t u e))
-
-other-turned : (t u : ℕ) → eqb t u ≡ false → eqb u t ≡ false
-other-turned t u e = ne-eqb u t (λ z. eqb-false t u e (sym z))
-
 -- a label that is mapped to no tag is what no tag means
 label-apart : (l : List ℕ) (es : List Entry) (t : ℕ) → listed l (entryLabels es) ≡ false → isLabel l (entryFor es t) ≡ false
 unfolding entryFor
 label-apart l [] t h = refl
 label-apart l (e ∷ es) t h =
-    let n = listed-not l (e .stands) (entryLabels es) h in
+    let n = listed-neither l (e .stands) (entryLabels es) h in
     split (eqb (e .tag) t) (λ a. simp a (n .0)) (λ a. simp a (label-apart l es t (n .1)))
 
 module _ (s l : List ℕ) where
@@ -66,8 +50,8 @@ module _ (s l : List ℕ) where
   unfolding tagFor
   tag-apart [] t other h = ne-eqb t 1 other
   tag-apart (m ∷ ms) t other h =
-      let n = among-not t (m .tag) (entryTags (map entryOf ms)) h in
-      split (same (take 16 (drop (m .place) s)) l) (λ b. simp b (other-turned (m .tag) t (n .0))) (λ b. simp b (tag-apart ms t other (n .1)))
+      let n = among-neither t (m .tag) (entryTags (map entryOf ms)) h in
+      split (same (take 16 (drop (m .place) s)) l) (λ b. simp b (flip-number (m .tag) t (n .0))) (λ b. simp b (tag-apart ms t other (n .1)))
 
   -- what a tag means is the label exactly if it is the tag that is sought
   tag-means : (ms : List Mapping) → Each (LabelLies s) ms → WellEntries (map entryOf ms) → (t : ℕ) → (t ≡ 1 → ⊥)
@@ -79,14 +63,14 @@ module _ (s l : List ℕ) where
       let rest = tag-means ms (lie .1) (well .3) t other in
       split (eqb (m .tag) t)
       (λ a. split (same (take 16 (drop (m .place) s)) l)
-      (λ b. simp (a, b) (is ∙ b ∙ sym (same-turned (m .tag) t a)))
+      (λ b. simp (a, b) (is ∙ b ∙ sym (eq-eqb t (m .tag) (sym (eqb-true (m .tag) t a)))))
       (λ b. simp (a, b)
       (is ∙ b ∙ sym (tag-apart ms t other (ap (λ (u : ℕ). among u (entryTags (map entryOf ms))) (sym (eqb-true (m .tag) t a)) ∙ well .1)))))
       (λ a. split (same (take 16 (drop (m .place) s)) l)
       (λ b.
       let own : m .stands ≡ l = same-true (m .stands) l (is ∙ b) in
       simp (a, b)
-      (label-apart l (map entryOf ms) t (ap (λ (k : List ℕ). listed k (entryLabels (map entryOf ms))) (sym own) ∙ well .2) ∙ sym (other-turned (m .tag) t a)))
+      (label-apart l (map entryOf ms) t (ap (λ (k : List ℕ). listed k (entryLabels (map entryOf ms))) (sym own) ∙ well .2) ∙ sym (flip-number (m .tag) t a)))
       (λ b. simp (a, b) rest))
 
   -- THE SEARCH OF THE TABLES

@@ -80,7 +80,7 @@ module _ {A : Type 0} (image : Entry → A) (eq : A → A → Bool) (has : A →
       let i = has-not (image m) (image p) (map image before) g in
       (has-last (image p) before m h (flip (image p) (image m) (i .0)), i .1)
 
-flip-number : (x y : ℕ) → eqb x y ≡ false → eqb y x ≡ false
+pub flip-number : (x y : ℕ) → eqb x y ≡ false → eqb y x ≡ false
 flip-number x y h = ne-eqb y x (λ e. eqb-false x y h (sym e))
 
 flip-list : (x y : List ℕ) → same x y ≡ false → same y x ≡ false

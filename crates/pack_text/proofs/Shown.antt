@@ -1,9 +1,9 @@
 -- The slots that are shown of an accepted pack: their lines are those of its items, and their labels stand in the pack.
 use mathlib.Core.Path.{_≡_, refl, sym, ap, subst, _∙_}
 use mathlib.Core.List.{List, [], _∷_, _++_, map, append-assoc}
-use Prim.Native.Nat.{ℕ, zero, suc, _+_, _-_, _<_, _≤_}
+use Prim.Native.Nat.{ℕ, _+_, _-_, _≤_}
 use native.Mathlib.Omega.{arith}
-use lib.ListN.{length, getD, take, replicate}
+use lib.ListN.{length, take, replicate}
 use Rattle.runs.specs.Those.{Each}
 use Rattle.runs.proofs.Those.{each-map}
 use Rattle.pack.specs.Fixed.{mappingCap, itemCap}

@@ -1,11 +1,11 @@
--- `same` decides equality of lists.
+-- `same` decides equality of lists; what is not among the elements of a list is neither the first nor among the others.
 use mathlib.Core.Path.{_≡_, refl, sym, ap, ap₂, _∙_}
 use mathlib.Core.List.{List, [], _∷_}
 use mathlib.Core.Bool.{true, false}
 use Prim.Native.Nat.{ℕ}
 use lib.Dec.{eqb}
 use borrow.Author.Tests.{eq-eqb, eqb-true}
-use Rattle.runs.specs.Same.{same}
+use Rattle.runs.specs.Same.{same, among, listed}
 use Rattle.runs.proofs.Cases.{split, absurd-eq}
 
 pub same-refl : (xs : List ℕ) → same xs xs ≡ true
@@ -25,3 +25,11 @@ same-true (x ∷ xs) (y ∷ ys) h =
 
 pub same-false : (xs ys : List ℕ) → same xs ys ≡ false → xs ≡ ys → ⊥
 same-false xs ys h e = let z : true ≡ false = sym (same-refl xs) ∙ ap (same xs) e ∙ h in absurd-eq (cc)
+
+pub among-neither : (n x : ℕ) (xs : List ℕ) → among n (x ∷ xs) ≡ false → (eqb x n ≡ false) × (among n xs ≡ false)
+unfolding among
+among-neither n x xs h = split (eqb x n) (λ e. let z : true ≡ false = simp e at h in absurd-eq (cc)) (λ e. (e, simp e at h))
+
+pub listed-neither : (l x : List ℕ) (xs : List (List ℕ)) → listed l (x ∷ xs) ≡ false → (same x l ≡ false) × (listed l xs ≡ false)
+unfolding listed
+listed-neither l x xs h = split (same x l) (λ e. let z : true ≡ false = simp e at h in absurd-eq (cc)) (λ e. (e, simp e at h))

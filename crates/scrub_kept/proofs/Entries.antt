@@ -12,14 +12,14 @@ use lib.Dec.{eqb}
 use borrow.Author.Tests.{eq-eqb, eqb-true}
 use Rattle.runs.specs.Same.{same, among, listed}
 use Rattle.runs.proofs.Cases.{split, absurd-eq}
-use Rattle.runs.proofs.Same.{same-true}
+use Rattle.runs.proofs.Same.{same-true, among-neither}
 use Rattle.pack.specs.Said.{label, number}
 use Rattle.pack_layout.specs.Layout.{Entry, entryFor}
 use Rattle.pack_layout.proofs.Entries.{entryTags, entryLabels}
 use Rattle.runs.specs.Those.{Each}
 use Rattle.scrub_kept.specs.Written.{free, assigned, tagFor}
 use Rattle.runs.proofs.Those.{each-map}
-use Rattle.scrub_kept.proofs.Listed.{never, or-moved, among-here, among-more, among-none}
+use Rattle.scrub_kept.proofs.Listed.{never, or-moved, among-here, among-more}
 use Rattle.scrub_kept.proofs.Free.{free-new, free-range, free-smallest}
 
 -- no number is among those after it
@@ -61,7 +61,7 @@ unfolding assigned
 assigned-free taken [] = search
 assigned-free taken (l ∷ ls) =
     let seen = free taken ∷ taken in
-    let less : (m : Entry) → among (m .tag) seen ≡ false → among (m .tag) taken ≡ false = λ m h. among-none (m .tag) (free taken) taken h .1 in
+    let less : (m : Entry) → among (m .tag) seen ≡ false → among (m .tag) taken ≡ false = λ m h. among-neither (m .tag) (free taken) taken h .1 in
     (free-new taken, each-map less (assigned seen ls) (assigned-free seen ls))
 
 -- no tag is assigned twice
@@ -126,7 +126,7 @@ label-tag P l (m ∷ ms) h g =
 pub number-means : (t : ℕ) (ms : List Entry) → among t (entryTags ms) ≡ false → entryFor ms t ≡ number t
 unfolding entryFor
 number-means t [] h = refl
-number-means t (m ∷ ms) h = let n = among-none t (m .tag) (entryTags ms) h in rw (n .0) (number-means t ms (n .1))
+number-means t (m ∷ ms) h = let n = among-neither t (m .tag) (entryTags ms) h in rw (n .0) (number-means t ms (n .1))
 
 tag-among : (l : List ℕ) (ms : List Entry) → listed l (entryLabels ms) ≡ true → among (tagFor ms (label l)) (entryTags ms) ≡ true
 unfolding listed tagFor

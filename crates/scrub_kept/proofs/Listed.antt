@@ -29,11 +29,6 @@ pub among-more : (n x : ℕ) (xs : List ℕ) → among n xs ≡ true → among n
 unfolding among
 among-more n x xs h = split (eqb x n) (λ e. rw e) (λ e. rw e h)
 
--- a number that is not among a list is not its head, and not among the rest
-pub among-none : (n x : ℕ) (xs : List ℕ) → among n (x ∷ xs) ≡ false → (eqb x n ≡ false) × (among n xs ≡ false)
-unfolding among
-among-none n x xs h = split (eqb x n) (λ e. let z : true ≡ false = simp e at h in never z) (λ e. (e, simp e at h))
-
 pub listed-here : (l : List ℕ) (ls : List (List ℕ)) → listed l (l ∷ ls) ≡ true
 unfolding listed
 listed-here l ls = rw (same-refl l)
