@@ -89,10 +89,10 @@ fn told_found(found: Found) -> ToldFound
             start: start as u64,
         },
         Found::Refused { why, place, from } => {
-            let n = refusals::number(why);
+            let told = told_answer(Answer::Refused { why, place });
             ToldFound {
-                number: wide(n),
-                value: place as u64,
+                number: told.number,
+                value: told.value,
                 from: mark_number(from),
                 start: 0,
             }

@@ -2,6 +2,7 @@
 use Prim.Native.Nat.{ℕ}
 use mathlib.Core.Path.{ap, ap₂, sym, _∙_}
 use Rattle.ballastwren.specs.Told.{toldFoundOf}
+use Rattle.ballastwren.specs.declared.Told.{Told}
 use borrow.Author.Needs.{needs}
 use Rattle.ballastwren.proofs.told_found.Statement.{statement}
 use Rattle.ballastwren.proofs.told_found.Tie as tie
@@ -14,8 +15,8 @@ returns c =
 
 returns-2 : tie.Need-returns-2
 returns-2 c =
-    let f = c .before .before .before .before .found2 in
-    ap₂ (λ (n m : ℕ). record { number = n; value = f .given .0 .1 .0; from = m; start = 0 }) (c .before .wide .ensures ∙ c .before .before .number .ensures) (c .mark-number2 .ensures)
+    let f = c .before .before .before .found2 in
+    ap₂ (λ (t : Told) (m : ℕ). record { number = t .number; value = t .value; from = m; start = 0 }) (c .before .told-answer .ensures) (c .mark-number2 .ensures)
     ∙ ap toldFoundOf (sym (f .given .1))
 
 pub told-found-spec : {M : Type 1} → statement M
@@ -25,7 +26,6 @@ told-found-spec =
     (λ c. search needs)
     (λ c κs. search needs)
     (λ c. search needs)
-    (λ c κs. search needs)
     (λ c κs. search needs)
     (λ c κs. search needs)
     returns
