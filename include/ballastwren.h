@@ -60,8 +60,8 @@ extern "C" {
 /* The version of this header and of the library beside it; docs/VERSIONS.md says what its numbers tell. */
 #define BW_VERSION_MAJOR 0
 #define BW_VERSION_MINOR 6
-#define BW_VERSION_PATCH 0
-#define BW_VERSION "0.6.0"
+#define BW_VERSION_PATCH 1
+#define BW_VERSION "0.6.1"
 #define BW_VERSION_NUMBER (BW_VERSION_MAJOR * 10000 + BW_VERSION_MINOR * 100 + BW_VERSION_PATCH)
 
 /*

@@ -1,6 +1,6 @@
 //! Bit fields in bytes, most significant bit first.
 
-/// The field of `width` bits, 1 to 25, at bit `at`, fetched by the bytes that cover it; all of
+/// The field of `width` bits, at most 25, at bit `at`, out of the four bytes from there on; all of
 /// it lies within `bytes`.
 #[inline(always)]
 pub fn fetch(bytes: &[u8], at: usize, width: u32) -> u32 {
@@ -11,7 +11,7 @@ pub fn fetch(bytes: &[u8], at: usize, width: u32) -> u32 {
             window << 8 | u32::from(*rest.get(index).unwrap_or(&0))
         }),
     };
-    window << (at % 8) >> (32 - width)
+    (u64::from(window << (at % 8)) >> (32 - width)) as u32
 }
 
 /// Writes fields onto bytes from the front.

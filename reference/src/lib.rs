@@ -7,7 +7,7 @@
 
 #![forbid(unsafe_code)]
 
-mod bits;
+pub mod bits;
 mod config;
 pub mod crc;
 pub mod gain;

@@ -59,7 +59,7 @@ fn judge_value(grammar: &Grammar, value: &[u8]) -> Result<usize, Refusal> {
     };
     walk(grammar, &mut judge)?;
     let left = (end - judge.at) as u32;
-    if left > 0 && fetch(value, judge.at, left) != 0 {
+    if fetch(value, judge.at, left) != 0 {
         return Err(Reason::Pad.at(judge.at));
     }
     Ok(judge.count)

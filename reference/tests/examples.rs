@@ -3,6 +3,7 @@
 mod common;
 
 use common::{config, hex, k, pack, pack_with_crc, payload, sync, LABEL_A, LABEL_B};
+use reference::bits::fetch;
 use reference::crc::crc;
 use reference::numbers::{length_size, read_length, read_tag, tag_size, write_length, write_tag};
 use reference::numbers::{Fault, MAX_TAG};
@@ -280,6 +281,26 @@ fn lengths() {
     for cut in ["", "81", "82 01", "84 00 00 00"] {
         assert_eq!(read_length(&hex(cut), 0), Err(Fault::Cut));
     }
+}
+
+/// The fields that `crates/vectors_numbers` prints: every width at every bit of a byte, at the
+/// start of the bytes and at their very end, as they are fetched here.
+#[test]
+fn fields_of_every_width_at_every_bit() {
+    let bytes = [0xA5, 0xC3, 0x0F, 0x81, 0x5E, 0x72];
+    let mut expected = String::new();
+    for width in 0..16_usize {
+        for bit in 0..8 {
+            let covering = (bit + width).div_ceil(8);
+            for at in [bit, 8 * (bytes.len() - covering) + bit] {
+                let number = fetch(&bytes, at, width as u32);
+                let line = format!("field a5 c3 0f 81 5e 72, {width} bits from {at}: {number}\n");
+                expected.push_str(&line);
+            }
+        }
+    }
+    let printed = include_str!("../../crates/vectors_numbers/stdout");
+    assert!(printed.ends_with(&expected));
 }
 
 #[test]

@@ -162,7 +162,7 @@ fn join(numbers: &[u32]) -> String {
 
 #[test]
 fn requests() {
-    run("2026-03.tsv");
+    run("2026-04.tsv");
 }
 
 #[test]

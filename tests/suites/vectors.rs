@@ -169,7 +169,7 @@ fn or_dash(text: String) -> String {
 
 #[test]
 fn requests() {
-    run("2026-03.tsv");
+    run("2026-04.tsv");
 }
 
 #[test]

@@ -9,7 +9,7 @@ abbrev pub minor : ℕ
 minor = 6
 
 abbrev pub patch : ℕ
-patch = 0
+patch = 1
 
 abbrev pub version : ℕ
 version = major * 10000 + minor * 100 + patch

@@ -42,7 +42,7 @@ const MAJOR: u32 = 0;
 
 const MINOR: u32 = 6;
 
-const PATCH: u32 = 0;
+const PATCH: u32 = 1;
 
 fn wide(n: u32) -> u64
     ensures { λ r. ⌜ r ≡ n ⌝ }

@@ -2,12 +2,12 @@
 use mathlib.Core.Path.{_≡_, refl, sym, ap, ap₂, _∙_, subst}
 use mathlib.Core.List.{List, [], _∷_, _++_}
 use Prim.Native.Nat.{ℕ, zero, suc, _+_, _-_, _*_, _/_, _%_, _^_, _<_, _≤_}
-use native.Mathlib.Nat.{mod-lt, mod-one, mod-eq-of-lt, mul-assoc, mul-comm, mul-one, mul-zero, mul-suc, add-assoc, add-comm, add-mul, add-zero, zero-add, suc-add, zero-mul, pow-zero, pow-suc, pow-le-pow-right, one-le-pow, lt-of-lt-of-le, zero-div, zero-mod, div-div-eq-div-mul, div-add-mod', add-mul-div-right, mul-add-mod-self-right, le-refl, not-suc-le-zero}
+use native.Mathlib.Nat.{mod-lt, mod-one, mod-eq-of-lt, mul-assoc, mul-comm, mul-one, mul-zero, mul-suc, add-assoc, add-comm, add-mul, add-zero, zero-add, suc-add, zero-mul, pow-zero, pow-suc, pow-le-pow-right, one-le-pow, lt-of-lt-of-le, zero-div, zero-mod, div-div-eq-div-mul, div-add-mod', add-mul-div-right, mul-add-mod-self-right, le-refl}
 use native.Mathlib.Numerals.{add-one}
 use native.Mathlib.Omega.{arith}
 use lib.Arith.{digits-lt, digits-div, mod-mul}
 use lib.ListN.{length, take, drop, getD, replicate}
-use lib.Seq.{drop-cons, drop-at, take-at}
+use lib.Seq.{drop-cons}
 use lib.Pow.{pow-add}
 use Rattle.runs.specs.Digits.{digits, numberFrom, number, Below}
 
@@ -75,21 +75,6 @@ digits-zero b (suc k) = ap₂ (λ (x : ℕ) (l : List ℕ). x ∷ l) (ap (λ (x 
 -- the digits of a number and, below them, of another
 pub digits-join : (b m n a v : ℕ) → 0 < b → v < b ^ n → digits b (m + n) (a * b ^ n + v) ≡ digits b m a ++ digits b n v
 digits-join b m n a v p h = digits-add b m n (a * b ^ n + v) ∙ ap₂ (λ (x y : List ℕ). x ++ y) (ap (digits b m) (digits-div a h)) (digits-low b n a v p)
-
--- a run of a number's digits, with o digits before it and r after it
-pub digits-run : (b o w r v : ℕ) → take w (drop o (digits b (o + (w + r)) v)) ≡ digits b w (v / b ^ r)
-digits-run b o w r v =
-    ap (λ (l : List ℕ). take w (drop o l)) (digits-add b o (w + r) v)
-    ∙ ap (take w) (drop-at (digits b o (v / b ^ (w + r))) (digits b (w + r) v) o (length-digits b o (v / b ^ (w + r))) ∙ digits-add b w r v)
-    ∙ take-at (digits b w (v / b ^ r)) (digits b r v) w (length-digits b w (v / b ^ r))
-
--- the digit at i
-pub digit-at : (b k v i : ℕ) → i < k → getD (digits b k v) i 0 ≡ v / b ^ (k - 1 - i) % b
-unfolding digits
-digit-at b zero v i h = absurd (not-suc-le-zero h)
-digit-at b (suc k) v zero h = ap (λ (x : ℕ). v / b ^ x % b) (let e : k ≡ suc k - 1 - 0 = omega arith in e)
-digit-at b (suc k) v (suc i) h =
-    digit-at b k v i (omega arith) ∙ ap (λ (x : ℕ). v / b ^ x % b) (let e : k - 1 - i ≡ suc k - 1 - suc i = omega arith in e)
 
 -- the number of a number's digits
 pub number-digits : (b a k v : ℕ) → 0 < b → numberFrom b a (digits b k v) ≡ a * b ^ k + v % b ^ k

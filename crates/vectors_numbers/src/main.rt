@@ -264,16 +264,26 @@ fn messages() {
     );
 }
 
-// Fields across the borders of bytes, of every kind of width that a PMD value has.
+// The fields of w bits from each bit of a byte on: of the first byte, and where the last byte that covers the field is the last of `s`.
+fn fields_of(s: &[u8], w: usize)
+    requires { ⌜ (w ≤ 15) × ((3 ≤ length (now s)) × (length (now s) ≤ 65536)) ⌝ }
+{
+    let mut bit: usize = 0;
+    while bit < 8 {
+        let covering = (bit + w + 7) / 8;
+        field(s, bit, w);
+        field(s, 8 * (s.len() - covering) + bit, w);
+        bit += 1;
+    }
+}
+
+// Fields of every width that a PMD value has, and of none. The reference holds their numbers in `stdout` to its own.
 fn fields() {
-    let s = b"\xA5\xC3\x0F\x81";
-    field(s, 0, 1);
-    field(s, 7, 2);
-    field(s, 3, 12);
-    field(s, 5, 15);
-    field(s, 17, 15);
-    field(s, 12, 8);
-    field(s, 32, 0);
+    let mut w: usize = 0;
+    while w < 16 {
+        fields_of(b"\xA5\xC3\x0F\x81\x5E\x72", w);
+        w += 1;
+    }
 }
 
 fn main() {
