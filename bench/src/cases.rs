@@ -156,12 +156,17 @@ fn turnaround(id: u32) -> Vec<u32> {
 pub fn values() -> Vec<Value> {
     let objects = (1..=64).flat_map(|e| [e, e % 7, e % 2, 512, e * 9, 1023, e % 32, 0, 1, e * 3 % 256, e % 64]).collect();
     let positions = std::iter::once(5).chain((1..=90).flat_map(|e| [e, 1 + e * 11 % 1023, 512, 1023])).collect();
-    let name = [7].into_iter().chain((0..3000).map(|i| 65 + i % 26)).chain([0]).collect();
+    let letters = || (0..3000).map(|i| 65 + i % 26).chain([0]);
+    let name = [7].into_iter().chain(letters()).collect();
+    let aligned = [1, 5568].into_iter().chain(letters()).collect();
+    let elements = [1, 0, 5568].into_iter().chain(1..=2000).chain([0]).collect();
     vec![
         value("64 object descriptions", 3, objects),
         value("90 positions", 4, positions),
         value("a name of 3,000 bytes", 5, name),
+        value("the same, each in a byte of its own", 2, aligned),
         value("one presentation", 1, vec![1, 0, 5568, 3, 4, 0]),
+        value("a presentation of 2,000 elements", 1, elements),
         value("40 turnarounds of ten pairs", 7, (1..=40).flat_map(turnaround).collect()),
     ]
 }
