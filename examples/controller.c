@@ -50,15 +50,16 @@ static bool refused(const char *path, bw_answer answer)
     return true;
 }
 
-/* Prints the positions in a value of the kind XYZ: a sample time, then four numbers for each object. */
-static bool print_positions(const char *path, const uint8_t *value, size_t length)
+/* Prints the positions in a value of the kind XYZ: a sample time, then four numbers for each object. `total` is the
+   total offset of the payload that has the value. */
+static bool print_positions(const char *path, const uint8_t *value, size_t length, int32_t total)
 {
     bw_answer got = bw_pmd_read(BW_XYZ, value, length, numbers, BW_PMD_NUMBERS_MAX);
     if (refused(path, got))
         return false;
     for (const uint32_t *object = numbers + 1; object < numbers + got.value; object += 4)
-        printf("%s: object %u at %u %u %u, sample time %u\n", path, (unsigned)object[0], (unsigned)object[1],
-               (unsigned)object[2], (unsigned)object[3], (unsigned)numbers[0]);
+        printf("%s: object %u at %u %u %u, sample time %u, total offset %d\n", path, (unsigned)object[0],
+               (unsigned)object[1], (unsigned)object[2], (unsigned)object[3], (unsigned)numbers[0], (int)total);
     return true;
 }
 
@@ -84,7 +85,7 @@ static bool handle(const char *path, size_t sheet_length)
     bool good = true;
     for (const uint32_t *row = rows + BW_ROW; row < rows + read.value; row += BW_ROW)
         if (is_positions(row))
-            good &= print_positions(path, scrubbed + row[4], row[5]);
+            good &= print_positions(path, scrubbed + row[4], row[5], (int32_t)row[6]);
     return good;
 }
 

@@ -59,9 +59,9 @@ extern "C" {
 
 /* The version of this header and of the library beside it; docs/VERSIONS.md says what its numbers tell. */
 #define BW_VERSION_MAJOR 0
-#define BW_VERSION_MINOR 6
-#define BW_VERSION_PATCH 1
-#define BW_VERSION "0.6.1"
+#define BW_VERSION_MINOR 7
+#define BW_VERSION_PATCH 0
+#define BW_VERSION "0.7.0"
 #define BW_VERSION_NUMBER (BW_VERSION_MAJOR * 10000 + BW_VERSION_MINOR * 100 + BW_VERSION_PATCH)
 
 /*
@@ -188,10 +188,13 @@ enum bw_name {
  *   [3]  BW_NUMBER: its tag; BW_LABEL: where the 16 bytes of its label stand in the pack; BW_NO_NAME: payloads inside
  *   [4]  where its value starts in the pack
  *   [5]  bytes of its value
- *   [6]  sample_offset of a Sync, two's complement; else 0
+ *   [6]  sample_offset of a Sync; of a payload its total offset; two's complement
  *   [7]  duration of a Sync; else 0
  *
- * To get a signed number back: (int32_t)rows[0].
+ * The total offset of a payload inside a Sync is the sum of pack offset and sample_offset, exact from -65,536 to
+ * 65,534; outside a Sync it is the pack offset alone.
+ *
+ * To get a signed number back: (int32_t)rows[0], (int32_t)row[6].
  *
  * Success counts the numbers written, BW_ROW times one more than bw_check's count: BW_ROWS_MAX at most. Numbers after
  * them have not changed.
@@ -242,21 +245,24 @@ enum bw_from {
 };
 
 /*
- * number 0, and `value` bytes from `start` on of the pack `from`; or a refusal, its place in `value`, the pack at fault
- * in `from`, and `start` 0. `from` is one of enum bw_from.
+ * number 0, and `value` bytes from `start` on of the pack `from`, with the total offset of their payload, as bw_read
+ * tells it, in `total`; or a refusal, its place in `value`, the pack at fault in `from`, and `start` and `total` 0.
+ * `from` is one of enum bw_from.
  */
 typedef struct {
     uint64_t number;
     uint64_t value;
     uint64_t from;
     uint64_t start;
+    int64_t total;
 } bw_found;
 
 /*
  * Looks a label up in two packs: finds the value of its first payload in `main` or, if main has none, in `backup`.
  *
  * The first payload is the first in byte order, inside Syncs too. A label that a pack maps to a tag and that no payload
- * has is not found in it. A value may have 0 bytes. bw_found_value gives the pointer to it.
+ * has is not found in it. A value may have 0 bytes. bw_found_value gives the pointer to it. The total offset is of the
+ * pack in which the value was found: main's and backup's pack offsets may differ.
  *
  * Refusals, in this order: those of bw_check for main, from BW_MAIN; those of bw_check for backup, from BW_BACKUP, also
  * where main has the label; ABSENT, from BW_NEITHER, if no payload of either has the label, or if `label_len` is not

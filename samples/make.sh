@@ -265,6 +265,12 @@ backup_feed() {
         sync 480 1920 "$(payload 5 AA)$(payload 70 "$AEN")")$(payload 70 "$later")"
 }
 
+# offsets PACK SYNC OTHER: a pack of this offset with payloads before, between and after Syncs of the other two.
+offsets() {
+    bare "$(config "$1" 64 "$POSITIONS")$(payload 70 00)$(sync "$2" 1920 "$(payload 64 "$XYZ")")$(payload 64 "$XYZ")$(
+        sync "$3" 1920 "$(payload 70 01)$(payload 64 "$XYZ")")$(payload 70 02)"
+}
+
 # payloads COUNT: so many payloads with tags from 100 on.
 payloads() {
     local i
@@ -282,6 +288,8 @@ make_good_packs() {
     save packs/incident.pack "$(incident)"
     save packs/main.pack "$(main_feed)"
     save packs/backup.pack "$(backup_feed)"
+    save packs/lowest-offsets.pack "$(offsets -32768 -32768 32767)"
+    save packs/highest-offsets.pack "$(offsets 32767 32767 -32768)"
     save packs/same-kept-a.pack "$(same_kept_a)"
     save packs/same-kept-b.pack "$(same_kept_b)"
 }

@@ -40,9 +40,9 @@ put cut "$key" 02 '05 01'
 
 cat >"$folder/expected" <<'LINES'
 moving: 95 bytes scrubbed to 72, pack offset -2
-moving: object 1 at 1 512 1023, sample time 1
-moving: object 3 at 100 200 300, sample time 5
-moving: object 4 at 1023 1 512, sample time 5
+moving: object 1 at 1 512 1023, sample time 1, total offset -2
+moving: object 3 at 100 200 300, sample time 5, total offset 14
+moving: object 4 at 1023 1 512, sample time 5, total offset 14
 still: 24 bytes scrubbed to 27, pack offset 0
 nothing: 17 bytes scrubbed to 23, pack offset 0
 reserved: 46 bytes scrubbed to 52, pack offset 0

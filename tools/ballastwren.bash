@@ -16,6 +16,7 @@ _ballastwren_next() {
 # The options of a subcommand.
 _ballastwren_options() {
     case $1 in
+    list) echo '--json --help' ;;
     scrub) echo '--sheet --report --help' ;;
     'pmd read' | 'pmd write' | 'pmd find') echo '--numbers --json --help' ;;
     *) echo '--help' ;;

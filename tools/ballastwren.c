@@ -21,7 +21,7 @@ struct command {
 
 static const struct command commands[] = {
     {{"check", NULL}, 0, 1, INT_MAX, INT_MAX, check_packs, help_check},
-    {{"list", NULL}, 0, 1, 1, 1, list_pack, help_list},
+    {{"list", NULL}, TAKES_JSON, 1, 1, 1, list_pack, help_list},
     {{"scrub", NULL}, TAKES_SHEET | TAKES_REPORT, 2, 2, 1, scrub_pack, help_scrub},
     {{"lookup", NULL}, 0, 3, 4, 3, look_up_label, help_lookup},
     {{"sheet", "make"}, 0, 0, 2, 1, make_sheet, help_sheet_make},

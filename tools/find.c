@@ -27,7 +27,7 @@ static void print_found(const struct found *found, bool numbers)
            (unsigned long)found->item->start);
     if (found->sync != NULL)
         printf(", in the Sync at byte %lu", (unsigned long)found->sync->start);
-    printf(", value bytes: %lu\n", (unsigned long)found->item->length);
+    printf(", value bytes: %lu, total offset %ld\n", (unsigned long)found->item->length, (long)found->item->offset);
     if (kind == NULL)
         puts("  values of this kind are not decoded");
     else if (found->answer.number != BW_DONE)
@@ -49,15 +49,14 @@ static void print_found_json(const struct found *found, bool first)
         fputs("null", stdout);
     fputs(",\"label\":\"", stdout);
     print_hex(stdout, found->pack->bytes + found->item->named, BW_LABEL_SIZE);
-    printf("\",\"title\":\"%s\",\"value_start\":%lu,\"value_length\":%lu", found->label->title,
-           (unsigned long)found->item->value, (unsigned long)found->item->length);
+    printf("\",\"title\":\"%s\",", found->label->title);
+    print_value_members(stdout, found->item);
     if (kind != NULL)
         printf(",\"kind\":%lu,\"name\":\"%s\",", (unsigned long)kind->number, kind->name);
     if (kind != NULL && found->answer.number == BW_DONE)
         print_json_members(stdout, kind, found->numbers, (size_t)found->answer.value);
     else if (kind != NULL)
-        printf("\"refused\":{\"name\":\"%s\",\"number\":%llu,\"place\":%llu}", bw_refusal_name(found->answer.number),
-               (unsigned long long)found->answer.number, (unsigned long long)found->answer.value);
+        print_refused_member(stdout, found->answer);
     putc('}', stdout);
 }
 

@@ -4,7 +4,7 @@ const char help_all[] =
     "ballastwren: SMPTE ST 2109 audio metadata packs and Dolby PMD values\n"
     "\n"
     "  ballastwren check PACK...                         say whether packs are good\n"
-    "  ballastwren list PACK                             list the items of a pack\n"
+    "  ballastwren list [--json] PACK                    list the items of a pack\n"
     "  ballastwren scrub --sheet SHEET [--report] PACK OUT\n"
     "                                                    write a new pack with what the keep sheet names\n"
     "  ballastwren lookup LABEL MAIN BACKUP [OUT]        write a label's value from the main or the backup pack\n"
@@ -28,14 +28,17 @@ const char help_check[] =
     "number, the byte at fault counted from the pack's first, and what the rule is.\n";
 
 const char help_list[] =
-    "ballastwren list PACK\n"
+    "ballastwren list [--json] PACK\n"
     "\n"
     "Lists a pack, one line each, just as the program 'list' does:\n"
     "  pack OFFSET COUNT none|good          pack offset; items and inner payloads together; the CRC\n"
     "  sync START OFFSET DURATION INSIDE    a Sync: where it starts, its two numbers, payloads inside\n"
-    "  number START TAG LENGTH              a payload known by its tag, and the bytes of its value\n"
-    "  label START LABEL LENGTH             a payload known by its label\n"
-    "  refused NUMBER PLACE                 instead of all that, for a pack that is refused\n";
+    "  number START TAG LENGTH TOTAL        a payload known by its tag, the bytes of its value, its total offset\n"
+    "  label START LABEL LENGTH TOTAL       a payload known by its label\n"
+    "  refused NUMBER PLACE                 instead of all that, for a pack that is refused\n"
+    "A total offset is the sum of pack offset and Sync offset; outside a Sync it is the pack offset alone.\n"
+    "  --json      one JSON object that says the same, and where each value starts; of a pack that is refused it has\n"
+    "              the one member \"refused\"\n";
 
 const char help_scrub[] =
     "ballastwren scrub --sheet SHEET [--report] PACK OUT\n"
@@ -52,7 +55,8 @@ const char help_lookup[] =
     "\n"
     "Writes to OUT ('-' if not given) the value of the first payload with this label in the pack MAIN or, if MAIN has\n"
     "none, in the pack BACKUP. Payloads inside Syncs count, in byte order. A line on standard error says which pack\n"
-    "the value is from. LABEL has 32 hex digits; '.' may stand between bytes.\n"
+    "the value is from, where it stands, and the payload's total offset.\n"
+    "LABEL has 32 hex digits; '.' may stand between bytes.\n"
     "Both packs are checked first: a bad BACKUP is refused even where MAIN has the label. A label that no payload of\n"
     "either has is refused, even if a pack maps it to a tag. A value may have 0 bytes.\n"
     "OUT is written whole or not at all, and never over MAIN or BACKUP.\n";
@@ -109,7 +113,7 @@ const char help_pmd_write[] =
 const char help_pmd_find[] =
     "ballastwren pmd find [--numbers | --json] PACK\n"
     "\n"
-    "Shows the PMD payloads of a pack, found by their labels, inside Syncs too, with the fields of the kinds that\n"
-    "'ballastwren pmd read' knows. Exit status 1 if a value is refused.\n"
+    "Shows the PMD payloads of a pack, found by their labels, inside Syncs too: where each stands, its total offset,\n"
+    "and the fields of the kinds that 'ballastwren pmd read' knows. Exit status 1 if a value is refused.\n"
     "  --numbers   bare lists of fields\n"
     "  --json      one JSON array\n";

@@ -48,8 +48,9 @@ static void note_from(const struct input *inputs, bw_found found)
     const int pack = pack_of(found);
     char sentence[128];
 
-    snprintf(sentence, sizeof sentence, "the value is from the %s, %llu byte%s at byte %llu", titles[pack],
-             (unsigned long long)found.value, found.value == 1 ? "" : "s", (unsigned long long)found.start);
+    snprintf(sentence, sizeof sentence, "the value is from the %s, %llu byte%s at byte %llu, total offset %ld",
+             titles[pack], (unsigned long long)found.value, found.value == 1 ? "" : "s",
+             (unsigned long long)found.start, (long)found.total);
     note(inputs[pack].name, sentence);
 }
 

@@ -41,3 +41,9 @@ void print_title(FILE *to, const struct reading *reading, const struct item *ite
     if (label != NULL)
         fprintf(to, " (%s)", label->title);
 }
+
+void print_value_members(FILE *to, const struct item *item)
+{
+    fprintf(to, "\"value_start\":%lu,\"value_length\":%lu,\"total_offset\":%ld", (unsigned long)item->value,
+            (unsigned long)item->length, (long)item->offset);
+}

@@ -1,4 +1,4 @@
-/* The reading of a pack as bw_read gives it, and its lines. */
+/* The reading of a pack as bw_read gives it, and how its items are told. */
 #ifndef PACKS_H
 #define PACKS_H
 
@@ -15,7 +15,7 @@ struct item {
     uint32_t named; /* the tag, where the label stands in the pack, or the payloads inside */
     uint32_t value;
     uint32_t length;
-    int32_t offset;
+    int32_t offset; /* a payload's total offset, a Sync's sample_offset */
     uint32_t duration;
 };
 
@@ -35,5 +35,8 @@ void print_payload_name(FILE *to, const struct reading *reading, const struct it
 
 /* The title of a label's payloads as "  (Audio Presentation Names)", nothing for any other name. */
 void print_title(FILE *to, const struct reading *reading, const struct item *item);
+
+/* "value_start", "value_length" and "total_offset" of a payload, members of a JSON object. */
+void print_value_members(FILE *to, const struct item *item);
 
 #endif

@@ -1,7 +1,5 @@
 #include "refusals.h"
 
-#include <stdio.h>
-
 #include "escape.h"
 #include "exits.h"
 
@@ -90,4 +88,10 @@ int trouble(const char *name, const char *sentence)
 {
     note(name, sentence);
     return TROUBLE;
+}
+
+void print_refused_member(FILE *to, bw_answer answer)
+{
+    fprintf(to, "\"refused\":{\"name\":\"%s\",\"number\":%llu,\"place\":%llu}", bw_refusal_name(answer.number),
+            (unsigned long long)answer.number, (unsigned long long)answer.value);
 }

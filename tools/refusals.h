@@ -1,8 +1,9 @@
-/* Refusals, troubles and notes, one line each on standard error. */
+/* Refusals, troubles and notes, one line each on standard error; and a refusal in JSON. */
 #ifndef REFUSALS_H
 #define REFUSALS_H
 
 #include <stddef.h>
+#include <stdio.h>
 
 #include "ballastwren.h"
 
@@ -25,6 +26,9 @@ int trouble(const char *name, const char *sentence);
 
 /* "ballastwren: NAME: sentence", of something that is no fault. */
 void note(const char *name, const char *sentence);
+
+/* "refused", a member of a JSON object. */
+void print_refused_member(FILE *to, bw_answer answer);
 
 /* The sentence that goes with a refusal's number. */
 const char *refusal_sentence(uint64_t number);

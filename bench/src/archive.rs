@@ -10,7 +10,7 @@ pub struct Answer {
     pub value: u64,
 }
 
-/// Number 0, and a value's size, pack and start; or a refusal's number, its place and the pack at fault.
+/// Number 0, and a value's size, pack, start and total offset; or a refusal's number, its place and the pack at fault.
 #[repr(C)]
 #[derive(Clone, Copy, PartialEq, Eq, Debug)]
 pub struct Found {
@@ -18,6 +18,7 @@ pub struct Found {
     pub value: u64,
     pub from: u64,
     pub start: u64,
+    pub total: i64,
 }
 
 extern "C" {
@@ -80,9 +81,11 @@ pub fn found(answer: Result<reference::Found, LookupRefusal>) -> Found {
         Mark::Backup => 2,
     };
     match answer {
-        Ok(found) => Found { number: 0, value: found.value.len() as u64, from: from(found.mark), start: found.start as u64 },
+        Ok(found) => {
+            Found { number: 0, value: found.value.len() as u64, from: from(found.mark), start: found.start as u64, total: found.total.into() }
+        }
         Err(LookupRefusal { refusal, mark }) => {
-            Found { number: refusal.number.into(), value: refusal.place as u64, from: mark.map_or(0, from), start: 0 }
+            Found { number: refusal.number.into(), value: refusal.place as u64, from: mark.map_or(0, from), start: 0, total: 0 }
         }
     }
 }

@@ -11,7 +11,8 @@
 mod common;
 mod shared;
 
-use common::{config, config_value, hex, k, pack, pack_with_crc, payload, sync, LABEL_A, LABEL_B};
+use common::{config, config_value, hex, k, pack, pack_with_crc, payload, sync, sync_at};
+use common::{LABEL_A, LABEL_B};
 use reference::listing;
 use reference::pack::KEY;
 use shared::Made;
@@ -172,6 +173,26 @@ fn labels_and_syncs() -> Vec<Case> {
     ]
 }
 
+/// Total offsets at both ends of their range, and where an offset must not be carried on.
+fn total_offsets() -> Vec<Case> {
+    let two = || [payload(5, b""), payload(64, b"x")];
+    let around = |of_pack, of_sync| {
+        let items = [two().concat(), sync_at(of_sync, &two()), two().concat()];
+        pack_with_crc(&[config(of_pack, &[(64, LABEL_A)]), items.concat()].concat())
+    };
+    let syncs = [sync_at(480, &two()), two().concat(), sync_at(-960, &two()), sync_at(0, &two())];
+    let syncs = [syncs.concat(), two().concat()].concat();
+    vec![
+        case("pack offset and Sync offset -32,768", around(i16::MIN, i16::MIN)),
+        case("pack offset -32,768, Sync offset 32,767", around(i16::MIN, i16::MAX)),
+        case("pack offset 32,767, Sync offset -32,768", around(i16::MAX, i16::MIN)),
+        case("pack offset and Sync offset 32,767", around(i16::MAX, i16::MAX)),
+        case("pack offset 1, Sync offset -1", around(1, -1)),
+        case("no pack offset, three Syncs", pack(&syncs)),
+        case("pack offset -48, three Syncs", pack(&[config(-48, &[]), syncs].concat())),
+    ]
+}
+
 fn mapped() -> Vec<Case> {
     let one = |tag, label: &str| pack(&config(0, &[(tag, label)]));
     let two = |tag, label: &str| pack(&config(0, &[(4, LABEL_A), (tag, label)]));
@@ -229,6 +250,7 @@ fn cases() -> Vec<Case> {
     written_out
         .chain(openings())
         .chain(labels_and_syncs())
+        .chain(total_offsets())
         .chain(mapped())
         .chain(counts())
         .collect()

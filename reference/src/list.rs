@@ -43,5 +43,5 @@ fn list_payload(reading: &Reading, payload: &Payload, out: &mut impl Write) -> f
             }
         }
     }
-    writeln!(out, " {}", payload.value_len)
+    writeln!(out, " {} {}", payload.value_len, payload.total)
 }

@@ -2,6 +2,7 @@
 
 use crate::config::{read_config, Mappings};
 use crate::labels::Label;
+use crate::pack::total_offset;
 use crate::walk::{walk, Frame, Sink};
 use crate::{Reason, Refusal};
 
@@ -19,6 +20,8 @@ pub struct Found<'a> {
     /// Where the value starts in that pack.
     pub start: usize,
     pub value: &'a [u8],
+    /// The total offset of the payload.
+    pub total: i32,
 }
 
 /// What comes back instead: a refusal, and the pack at fault.
@@ -53,6 +56,7 @@ fn seek<'a>(
 ) -> Result<Option<Found<'a>>, LookupRefusal> {
     let mut search = Search {
         label,
+        offset: 0,
         tag: None,
         found: None,
     };
@@ -60,33 +64,37 @@ fn seek<'a>(
         refusal,
         mark: Some(mark),
     })?;
-    Ok(search.found.map(|frame| Found {
+    Ok(search.found.map(|(frame, total)| Found {
         mark,
         start: frame.value,
         value: &pack[frame.value..frame.end],
+        total,
     }))
 }
 
-/// The sink of a search. A Config comes before every payload, so the tag is known in time.
+/// The sink of a search. A Config comes before every payload, so offset and tag are known in time.
 struct Search<'l> {
     label: Option<&'l Label>,
+    /// The pack offset, 0 without a Config.
+    offset: i16,
     /// The tag mapped to the label, until a payload has it.
     tag: Option<u32>,
-    found: Option<Frame>,
+    /// The first payload with the tag, and its total offset.
+    found: Option<(Frame, i32)>,
 }
 
 impl Sink for Search<'_> {
     fn config(&mut self, part: &[u8], at: usize, frame: Frame) -> Result<(), Refusal> {
         let mut mappings = Mappings::NONE;
-        read_config(part, at, frame.value, &mut mappings)?;
+        self.offset = read_config(part, at, frame.value, &mut mappings)?;
         self.tag = self.label.and_then(|label| mappings.tag_of(part, label));
         Ok(())
     }
 
     #[inline(always)]
-    fn payload(&mut self, _slot: usize, _at: usize, frame: Frame, _inner: bool) {
+    fn payload(&mut self, _slot: usize, _at: usize, frame: Frame, sync: Option<i16>) {
         if self.tag == Some(frame.tag) {
-            self.found = Some(frame);
+            self.found = Some((frame, total_offset(self.offset, sync)));
             self.tag = None;
         }
     }

@@ -40,6 +40,8 @@ pub struct Payload {
     pub value_len: u16,
     /// Whether it is inside the Sync above it.
     pub inner: bool,
+    /// The total offset: that of the pack and, inside a Sync, the Sync's as well.
+    pub total: i32,
 }
 
 /// A Sync; its payloads are the `inside` items after it.
@@ -67,7 +69,15 @@ impl Item {
         value_start: 0,
         value_len: 0,
         inner: false,
+        total: 0,
     });
+}
+
+/// The total offset of a payload in a pack of this offset, and in a Sync of that one or in none.
+// Two numbers of 16 bits: their sum needs 17.
+#[inline]
+pub(crate) fn total_offset(pack: i16, sync: Option<i16>) -> i32 {
+    i32::from(pack) + sync.map_or(0, i32::from)
 }
 
 /// The reading of an accepted pack; names and values are stretches of that pack.
@@ -177,7 +187,7 @@ impl Sink for Reading<'_> {
     }
 
     #[inline(always)]
-    fn payload(&mut self, slot: usize, at: usize, frame: Frame, inner: bool) {
+    fn payload(&mut self, slot: usize, at: usize, frame: Frame, sync: Option<i16>) {
         let name = match self.mappings.find(frame.tag) {
             Some(mapping) => Name::Label(mapping),
             None => Name::Number(frame.tag),
@@ -187,7 +197,8 @@ impl Sink for Reading<'_> {
             start: at as u16,
             value_start: frame.value as u16,
             value_len: (frame.end - frame.value) as u16,
-            inner,
+            inner: sync.is_some(),
+            total: total_offset(self.offset, sync),
         });
     }
 

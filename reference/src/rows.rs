@@ -12,12 +12,12 @@ pub fn rows(pack: &[u8], rows: &mut [u32]) -> Result<usize, Refusal> {
     let mut reading = Reading::blank(pack);
     reading.fill()?;
     let items = reading.items();
-    let total = ROW * (1 + items.len());
-    let used = rows.get_mut(..total).ok_or(Reason::NoRoom.at(0))?;
+    let size = ROW * (1 + items.len());
+    let used = rows.get_mut(..size).ok_or(Reason::NoRoom.at(0))?;
     let (used, _) = used.as_chunks_mut::<ROW>();
     let crc = u32::from(reading.has_crc());
     used[0] = [
-        signed(reading.offset()),
+        signed(reading.offset().into()),
         crc,
         items.len() as u32,
         0,
@@ -38,12 +38,12 @@ pub fn rows(pack: &[u8], rows: &mut [u32]) -> Result<usize, Refusal> {
                 sync.inside.into(),
                 sync.value_start.into(),
                 sync.value_len.into(),
-                signed(sync.sample_offset),
+                signed(sync.sample_offset.into()),
                 sync.duration.into(),
             ],
         };
     }
-    Ok(total)
+    Ok(size)
 }
 
 fn payload_row(reading: &Reading, form: u32, payload: &Payload) -> [u32; ROW] {
@@ -52,11 +52,11 @@ fn payload_row(reading: &Reading, form: u32, payload: &Payload) -> [u32; ROW] {
         Name::Label(mapping) => (1, reading.label_start(mapping) as u32),
     };
     let (start, value_start) = (payload.start.into(), payload.value_start.into());
-    let value_len = payload.value_len.into();
-    [form, start, kind, name, value_start, value_len, 0, 0]
+    let (value_len, total) = (payload.value_len.into(), signed(payload.total));
+    [form, start, kind, name, value_start, value_len, total, 0]
 }
 
 /// Two's complement in 32 bits.
-fn signed(number: i16) -> u32 {
-    i32::from(number) as u32
+fn signed(number: i32) -> u32 {
+    number as u32
 }

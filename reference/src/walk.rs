@@ -3,7 +3,7 @@
 
 use crate::crc::crc;
 use crate::labels::Label;
-use crate::numbers::{read_length, read_tag, Fault};
+use crate::numbers::{be16, read_length, read_tag, Fault};
 use crate::pack::{CONFIG, CRC, KEY, MAX_ITEMS, MAX_PACK, SYNC};
 use crate::{Reason, Refusal};
 
@@ -12,9 +12,9 @@ pub trait Sink {
     /// A Config, whose value ends with `part`; its content is judged here.
     fn config(&mut self, part: &[u8], at: usize, frame: Frame) -> Result<(), Refusal>;
 
-    /// An audio payload, inside a Sync or not.
+    /// An audio payload, and the sample_offset of the Sync that it is inside, if it is in one.
     #[inline(always)]
-    fn payload(&mut self, _slot: usize, _at: usize, _frame: Frame, _inner: bool) {}
+    fn payload(&mut self, _slot: usize, _at: usize, _frame: Frame, _sync: Option<i16>) {}
 
     /// A Sync, after the payloads inside it.
     #[inline(always)]
@@ -103,7 +103,7 @@ pub fn walk<S: Sink>(pack: &[u8], sink: &mut S) -> Result<usize, Refusal> {
         let found = frame(pack, at)?;
         if found.tag > CRC {
             let slot = take_slot(&mut count, at)?;
-            sink.payload(slot, at, found, false);
+            sink.payload(slot, at, found, None);
         } else {
             count = walk_utility(pack, first, at, found, count, sink)?;
         }
@@ -149,6 +149,7 @@ fn walk_sync<S: Sink>(
     if sync.end - sync.value <= 4 {
         return Err(Reason::Sync.at(start));
     }
+    let offset = be16(part, sync.value) as i16;
     let mut at = sync.value + 4;
     while at < part.len() {
         let found = frame(part, at)?;
@@ -156,7 +157,7 @@ fn walk_sync<S: Sink>(
             return Err(Reason::Place.at(at));
         }
         let slot = take_slot(&mut count, at)?;
-        sink.payload(slot, at, found, true);
+        sink.payload(slot, at, found, Some(offset));
         at = found.end;
     }
     sink.sync(slot, start, sync, count - slot - 1);

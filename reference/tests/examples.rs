@@ -2,7 +2,7 @@
 
 mod common;
 
-use common::{config, hex, k, pack, pack_with_crc, payload, sync, LABEL_A, LABEL_B};
+use common::{config, hex, k, pack, pack_with_crc, payload, sync, sync_at, LABEL_A, LABEL_B};
 use reference::bits::fetch;
 use reference::crc::crc;
 use reference::numbers::{length_size, read_length, read_tag, tag_size, write_length, write_tag};
@@ -10,7 +10,7 @@ use reference::numbers::{Fault, MAX_TAG};
 use reference::pack::KEY;
 use reference::{check, gain, listing, lookup, pmd_read, pmd_write, read, rows};
 use reference::{scrub, sheet_check};
-use reference::{Found, Gain, Item, LookupRefusal, Mark, Name, Reason, Refusal};
+use reference::{Found, Gain, Item, LookupRefusal, Mark, Name, Payload, Reason, Refusal};
 
 /// The sheet that keeps all.
 const ALL: &[u8] = &[0xFF, 0xFF, 0, 8, 0xFF, 0xFF, 0, 8];
@@ -59,13 +59,55 @@ fn absent(one: &[u8], other: &[u8], label: &str) {
     lookup_refused(other, one, label, Reason::Absent.at(0), None);
 }
 
-/// Expects label A's value at this place of the pack that is marked, and not a copy of it.
+/// Expects label A's value at this place of the pack that is marked, and not a copy of it, with the
+/// total offset that a reading of that pack has for it.
 #[track_caller]
 fn found(main: &[u8], backup: &[u8], mark: Mark, start: usize, value: &[u8]) {
-    let found = lookup(main, backup, &hex(LABEL_A)).unwrap();
-    assert_eq!(found, Found { mark, start, value });
     let pack = if mark == Mark::Main { main } else { backup };
+    let there = payloads(pack);
+    let there = there.iter().find(|p| usize::from(p.value_start) == start);
+    let total = there.unwrap().total;
+    let found = lookup(main, backup, &hex(LABEL_A)).unwrap();
+    let expected = Found {
+        mark,
+        start,
+        value,
+        total,
+    };
+    assert_eq!(found, expected);
     assert!(std::ptr::eq(found.value, &pack[start..][..value.len()]));
+}
+
+/// The payloads of a pack in byte order, those inside Syncs too.
+fn payloads(pack: &[u8]) -> Vec<Payload> {
+    let reading = read(pack).unwrap();
+    let items = reading.items().iter();
+    items
+        .filter_map(|item| match item {
+            Item::Payload(payload) => Some(*payload),
+            Item::Sync(_) => None,
+        })
+        .collect()
+}
+
+/// Expects these total offsets of a pack's payloads in byte order, in its reading, rows and listing.
+#[track_caller]
+fn totals(pack: &[u8], expected: &[i32]) {
+    let read: Vec<i32> = payloads(pack).iter().map(|payload| payload.total).collect();
+    assert_eq!(read, expected);
+    let mut table = [77; 520];
+    let size = rows(pack, &mut table).unwrap();
+    let told = table[8..size].chunks(8).filter(|row| row[0] != 1);
+    let told: Vec<i32> = told.map(|row| row[6] as i32).collect();
+    assert_eq!(told, expected);
+    let text = listing(pack);
+    let lines = text
+        .lines()
+        .skip(1)
+        .filter(|line| !line.starts_with("sync"));
+    let printed: Vec<&str> = lines.map(|line| line.rsplit_once(' ').unwrap().1).collect();
+    let expected: Vec<String> = expected.iter().map(i32::to_string).collect();
+    assert_eq!(printed, expected);
 }
 
 /// Expects a sheet to be refused by a check, and by a scrub of an empty pack.
@@ -178,7 +220,7 @@ fn bench_scrub_and_listing() {
     assert_eq!(out[..22], expected);
     assert_eq!(out[22..26], crc(&expected).to_be_bytes());
     assert_eq!(out[26..], [0; 14]);
-    let text = "pack 0 2 none\nsync 17 -1 0 1\nnumber 23 5 0\n";
+    let text = "pack 0 2 none\nsync 17 -1 0 1\nnumber 23 5 0 -1\n";
     assert_eq!(listing(&k("08 02 06 FF FF 00 00 05 00")), text);
     assert_eq!(listing(&k("80")), "refused 4 16\n");
 }
@@ -193,10 +235,10 @@ fn listing_of_labels_and_a_crc() {
     let pack = pack_with_crc(&items.concat());
     let lines = [
         "pack -2 4 good".to_string(),
-        format!("label 56 {LABEL_A} 3"),
+        format!("label 56 {LABEL_A} 3 -2"),
         "sync 62 1 2 2".to_string(),
-        format!("label 68 {LABEL_B} 0"),
-        "number 70 8 1\n".to_string(),
+        format!("label 68 {LABEL_B} 0 -1"),
+        "number 70 8 1 -1\n".to_string(),
     ];
     // The pack's length has one byte, the Config 39: the first payload stands at 17 + 39.
     assert_eq!(listing(&pack), lines.join("\n"));
@@ -211,12 +253,12 @@ fn rows_of_a_reading() {
         sync(&[payload(8, b"x")]),
     ];
     let pack = pack_with_crc(&items.concat());
-    let minus_2 = -2_i32 as u32;
+    let [minus_1, minus_2] = [-1_i32, -2].map(|number| number as u32);
     let expected = [
         [minus_2, 1, 3, 0, 0, 0, 0, 0],
-        [0, 39, 1, 23, 42, 3, 0, 0],
+        [0, 39, 1, 23, 42, 3, minus_2, 0],
         [1, 45, 2, 1, 47, 7, 1, 2],
-        [2, 51, 0, 8, 53, 1, 0, 0],
+        [2, 51, 0, 8, 53, 1, minus_1, 0],
     ];
     let mut table = [77; 40];
     assert_eq!(rows(&pack, &mut table), Ok(32));
@@ -225,6 +267,96 @@ fn rows_of_a_reading() {
     let mut table = [77; 31];
     assert_eq!(rows(&pack, &mut table), Err(Reason::NoRoom.at(0)));
     assert_eq!(table, [77; 31]);
+}
+
+/// Both offsets at both ends of their range: the sum is exact, and outside the Sync the pack offset
+/// stands alone.
+#[test]
+fn total_offsets_at_the_ends() {
+    let ends = [
+        (i16::MIN, i16::MIN, -65_536),
+        (i16::MIN, i16::MAX, -1),
+        (i16::MAX, i16::MIN, -1),
+        (i16::MAX, i16::MAX, 65_534),
+    ];
+    for (of_pack, of_sync, total) in ends {
+        let alone = i32::from(of_pack);
+        let labelled = || payload(64, b"v");
+        let inside = sync_at(of_sync, &[payload(5, b""), labelled()]);
+        let mapped = config(of_pack, &[(64, LABEL_A)]);
+        let first_inside = pack(&[mapped.clone(), inside.clone(), labelled()].concat());
+        totals(&first_inside, &[total, total, alone]);
+        looked_up(&first_inside, total);
+        let first_outside = pack_with_crc(&[mapped, labelled(), inside.clone()].concat());
+        totals(&first_outside, &[alone, total, total]);
+        looked_up(&first_outside, alone);
+        // Without a Config the pack offset is 0.
+        let bare = pack(&[payload(5, b""), inside].concat());
+        totals(&bare, &[0, of_sync.into(), of_sync.into()]);
+    }
+}
+
+/// Expects this total offset of label A's first payload, with the pack as main and as backup of one
+/// that has offsets of its own.
+#[track_caller]
+fn looked_up(one: &[u8], total: i32) {
+    let other = [config(77, &[]), sync_at(7, &[payload(64, b"other")])];
+    let other = pack(&other.concat());
+    for (main, backup) in [(one, &other[..]), (&other, one), (one, one)] {
+        let found = lookup(main, backup, &hex(LABEL_A)).unwrap();
+        assert_eq!(found.total, total);
+    }
+}
+
+/// No Sync's offset is carried on: not to a payload after it, and not into the next Sync.
+#[test]
+fn total_offsets_among_several_syncs() {
+    let one = || payload(5, b"x");
+    let items = [
+        one(),
+        sync_at(7, &[one(), one()]),
+        one(),
+        sync_at(i16::MIN, &[one()]),
+        sync_at(0, &[one()]),
+        sync_at(i16::MAX, &[one(), payload(300, &[0; 200])]),
+        one(),
+    ];
+    let expected = [0, 7, 7, 0, -32_768, 0, 32_767, 32_767, 0];
+    totals(&pack(&items.concat()), &expected);
+    for offset in [-100, -1, 0, 1, i16::MIN, i16::MAX] {
+        let with = pack_with_crc(&[config(offset, &[]), items.concat()].concat());
+        totals(&with, &expected.map(|total| total + i32::from(offset)));
+    }
+}
+
+/// A label's first payload in the second of two Syncs, and in a backup of another pack offset.
+#[test]
+fn total_offset_of_what_is_looked_up() {
+    let mapped = |offset| config(offset, &[(64, LABEL_A)]);
+    let two = [
+        sync_at(1000, &[payload(5, b"")]),
+        sync_at(-20, &[payload(6, b""), payload(64, b"v")]),
+        payload(64, b"w"),
+    ];
+    let later = pack(&[mapped(3), two.concat()].concat());
+    looked_up(&later, -17);
+    let unused = pack(&[mapped(500), sync_at(40, &[payload(5, b"")])].concat());
+    let got = lookup(&unused, &later, &hex(LABEL_A)).unwrap();
+    assert_eq!((got.mark, got.total), (Mark::Backup, -17));
+}
+
+/// A scrub leaves offsets as they are, and so the total offset of all that it keeps.
+#[test]
+fn total_offsets_of_what_is_kept() {
+    let items = [
+        config(i16::MIN, &[(10, LABEL_A)]),
+        sync_at(9, &[payload(6, b"gone")]),
+        sync_at(-9, &[payload(6, b"gone"), payload(10, b"kept")]),
+        payload(10, b"kept"),
+    ];
+    let mut out = [0; 200];
+    let size = scrub(&sheet(&[LABEL_A], &[]), &pack(&items.concat()), &mut out).unwrap();
+    totals(&out[..size], &[-32_777, -32_768]);
 }
 
 #[test]
@@ -360,7 +492,7 @@ fn a_pack_of_the_greatest_size() {
     let fits = pack(&payload(5, &vec![0xAA; 32_739]));
     let mut out = vec![0xA5; 32_768];
     assert_eq!(scrub(ALL, &fits, &mut out), Ok(32_768));
-    assert_eq!(listing(&out), "pack 0 1 good\nnumber 19 5 32739\n");
+    assert_eq!(listing(&out), "pack 0 1 good\nnumber 19 5 32739 0\n");
     let longer = pack(&payload(5, &vec![0xAA; 32_740]));
     scrub_refused(ALL, &longer, 40_000, Reason::NoRoom, 0);
 }

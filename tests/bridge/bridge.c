@@ -108,12 +108,12 @@ static uint32_t look(const struct range *range, bool lent_to_write)
     return trouble;
 }
 
-/* The two numbers that a look-up has beside its answer go to the front of the buffer, and the value after them. */
+/* The three numbers that a look-up has beside its answer go to the front of the buffer, and the value after them. */
 static bw_answer lookup(bool one_pack)
 {
     const struct range *backup = one_pack ? &first : &second;
     bw_found found = bw_lookup(first.bytes, first.len, backup->bytes, backup->len, third.bytes, third.len);
-    uint64_t beside[2] = {found.from, found.start};
+    uint64_t beside[3] = {found.from, found.start, (uint64_t)found.total};
     memcpy(buffer.bytes, beside, sizeof beside);
     const uint8_t *value = bw_found_value(found, first.bytes, backup->bytes);
     if (value != NULL)

@@ -167,8 +167,8 @@ static void packs(void)
 static bool try_rows(const void *text)
 {
     static const uint32_t expected[] = {
-        (uint32_t)-2, 1, 3, 0, 0, 0, 0, 0,        0, 38, 1, 22, 40, 3, 0, 0,
-        1, 43, 2, 1, 45, 7, (uint32_t)-1, 65535,  2, 49, 0, 8, 51, 1, 0, 0,
+        (uint32_t)-2, 1, 3, 0, 0, 0, 0, 0,        0, 38, 1, 22, 40, 3, (uint32_t)-2, 0,
+        1, 43, 2, 1, 45, 7, (uint32_t)-1, 65535,  2, 49, 0, 8, 51, 1, (uint32_t)-3, 0,
     };
     lent pack = pack_of(text), rows = lent_to_write(sizeof expected, side);
     bool good = is(bw_read(pack.bytes, pack.len, (uint32_t *)rows.bytes, rows.len / 4), BW_DONE, rows.len / 4);
@@ -176,6 +176,44 @@ static bool try_rows(const void *text)
     lent_back(&pack);
     lent_back(&rows);
     return good;
+}
+
+typedef struct {
+    const char *name, *pack;
+    int32_t totals[6]; /* of its payloads in order */
+} total_case;
+
+/* Payloads outside a Sync, inside it and after it, both offsets at the ends of their range; then several Syncs. */
+static const total_case TOTALS[] = {
+    {"both offsets -32,768", "K 10 0102 8000 0500 0206 80000000 0500 0500", {-32768, -65536, -32768}},
+    {"pack offset -32,768, Sync offset 32,767", "K 10 0102 8000 0500 0206 7FFF0000 0500 0500", {-32768, -1, -32768}},
+    {"pack offset 32,767, Sync offset -32,768", "K 10 0102 7FFF 0500 0206 80000000 0500 0500", {32767, -1, 32767}},
+    {"both offsets 32,767", "K 10 0102 7FFF 0500 0206 7FFF0000 0500 0500", {32767, 65534, 32767}},
+    {"no pack offset", "K 0C 0500 0206 80000000 0500 0500", {0, -32768, 0}},
+    {"three Syncs", "K 22 0102 FFD0 0206 01E00000 0500 0500 0208 FC400000 0500 0600 0206 00000000 0500 0500",
+     {432, -48, -1008, -1008, -48, -48}},
+};
+
+/* The total offsets of the payloads, as the header says to get them back. */
+static bool try_totals(const void *given)
+{
+    const total_case *c = given;
+    uint32_t rows[BW_ROWS_MAX];
+    size_t next = 0;
+    lent pack = pack_of(c->pack);
+    bw_answer read = bw_read(pack.bytes, pack.len, rows, BW_ROWS_MAX);
+    bool good = read.number == BW_DONE;
+    for (const uint32_t *row = rows + BW_ROW; good && row < rows + read.value; row += BW_ROW)
+        if (row[0] != BW_SYNC_ITEM)
+            good = (int32_t)row[6] == c->totals[next++] && row[7] == 0;
+    lent_back(&pack);
+    return good && next >= 3;
+}
+
+static void totals(void)
+{
+    for (size_t i = 0; i < sizeof TOTALS / sizeof TOTALS[0]; i++)
+        test(try_totals, &TOTALS[i], "bw_read, total offsets", TOTALS[i].name);
 }
 
 typedef struct {
@@ -318,57 +356,78 @@ static void sheets(void)
     test(try_longest_sheet, NULL, "bw_sheet_check", "the longest sheet");
 }
 
-/* Answer, pack and start of a look-up. */
-static bool is_found(bw_found found, uint64_t number, uint64_t value, uint64_t from, uint64_t start)
+/* Answer, pack, start and total offset of a look-up. */
+static bool is_found(bw_found found, bw_found expected)
 {
     bw_answer answer = {found.number, found.value};
-    if (!is(answer, number, value))
+    if (!is(answer, expected.number, expected.value))
         return false;
-    if (found.from == from && found.start == start)
+    if (found.from == expected.from && found.start == expected.start && found.total == expected.total)
         return true;
-    printf("got pack %llu, start %llu, expected pack %llu, start %llu\n", (unsigned long long)found.from,
-           (unsigned long long)found.start, (unsigned long long)from, (unsigned long long)start);
+    printf("got pack %llu, start %llu, total %lld, expected pack %llu, start %llu, total %lld\n",
+           (unsigned long long)found.from, (unsigned long long)found.start, (long long)found.total,
+           (unsigned long long)expected.from, (unsigned long long)expected.start, (long long)expected.total);
     return false;
+}
+
+/* One that is refused: start and total offset are 0. */
+static bool is_not_found(bw_found found, uint64_t number, uint64_t place, uint64_t from)
+{
+    return is_found(found, (bw_found){number, place, from, 0, 0});
 }
 
 typedef struct {
     const char *name, *main, *backup, *label;
     uint64_t number, from, start;
     const char *value; /* on success: its bytes */
+    int64_t total;
 } lookup_case;
 
 #define OTHER "060E2B340401010D0404020E00000000"
 #define NOTHING "K 00"
-/* The label's value is AB, from byte 40 on. */
-#define CARRIES "K 18 0113 0000 40" LABEL "4001AB"
+/* The label's value is AB, from byte 40 on, and its total offset 7. */
+#define CARRIES "K 18 0113 0007 40" LABEL "4001AB"
 #define UNUSED "K 18 0113 0000 40" LABEL "0501CD"
 
 static const lookup_case LOOKUPS[] = {
-    {"in main", CARRIES, NOTHING, LABEL, BW_DONE, BW_MAIN, 40, "AB"},
-    {"in backup", NOTHING, CARRIES, LABEL, BW_DONE, BW_BACKUP, 40, "AB"},
-    {"main before backup", "K 17 0113 0000 40" LABEL "4000", CARRIES, LABEL, BW_DONE, BW_MAIN, 40, ""},
-    {"a value of 0 bytes in backup", NOTHING, "K 17 0113 0000 40" LABEL "4000", LABEL, BW_DONE, BW_BACKUP, 40, ""},
-    {"mapped and not used in main", UNUSED, CARRIES, LABEL, BW_DONE, BW_BACKUP, 40, "AB"},
-    {"mapped and not used", UNUSED, UNUSED, LABEL, BW_ABSENT, BW_NEITHER, 0, NULL},
-    {"the first of two", "K 1B 0113 0000 40" LABEL "4001AB 4001CD", NOTHING, LABEL, BW_DONE, BW_MAIN, 40, "AB"},
-    {"in a Sync", NOTHING, "K 20 0113 0000 40" LABEL "0209 00010002 0500 4001AB", LABEL, BW_DONE, BW_BACKUP, 48, "AB"},
+    {"in main", CARRIES, NOTHING, LABEL, BW_DONE, BW_MAIN, 40, "AB", 7},
+    {"in backup", NOTHING, CARRIES, LABEL, BW_DONE, BW_BACKUP, 40, "AB", 7},
+    {"main before backup", "K 17 0113 0000 40" LABEL "4000", CARRIES, LABEL, BW_DONE, BW_MAIN, 40, "", 0},
+    {"a value of 0 bytes in backup", NOTHING, "K 17 0113 0000 40" LABEL "4000", LABEL, BW_DONE, BW_BACKUP, 40, "", 0},
+    {"mapped and not used in main", UNUSED, CARRIES, LABEL, BW_DONE, BW_BACKUP, 40, "AB", 7},
+    {"mapped and not used", UNUSED, UNUSED, LABEL, BW_ABSENT, BW_NEITHER, 0, NULL, 0},
+    {"the first of two", "K 1B 0113 0000 40" LABEL "4001AB 4001CD", NOTHING, LABEL, BW_DONE, BW_MAIN, 40, "AB", 0},
+    {"in a Sync", NOTHING, "K 20 0113 0000 40" LABEL "0209 00010002 0500 4001AB", LABEL, BW_DONE, BW_BACKUP, 48, "AB",
+     1},
     {"in a Sync before outside", "K 21 0113 0000 40" LABEL "0207 00010002 4001AB 4001CD", CARRIES, LABEL, BW_DONE,
-     BW_MAIN, 46, "AB"},
+     BW_MAIN, 46, "AB", 1},
     {"outside a Sync before inside", "K 21 0113 0000 40" LABEL "4001AB 0207 00010002 4001CD", CARRIES, LABEL, BW_DONE,
-     BW_MAIN, 40, "AB"},
+     BW_MAIN, 40, "AB", 0},
+    {"both offsets -32,768", "K 1E 0113 8000 40" LABEL "0207 80000000 4001AB", CARRIES, LABEL, BW_DONE, BW_MAIN, 46,
+     "AB", -65536},
+    {"both offsets 32,767", UNUSED, "K 1E 0113 7FFF 40" LABEL "0207 7FFF0000 4001AB", LABEL, BW_DONE, BW_BACKUP, 46,
+     "AB", 65534},
+    {"pack offset -32,768, Sync offset 32,767", "K 1E 0113 8000 40" LABEL "0207 7FFF0000 4001AB", CARRIES, LABEL,
+     BW_DONE, BW_MAIN, 46, "AB", -1},
+    {"pack offset 32,767, Sync offset -32,768", NOTHING, "K 1E 0113 7FFF 40" LABEL "0207 80000000 4001AB", LABEL,
+     BW_DONE, BW_BACKUP, 46, "AB", -1},
+    {"after a Sync", "K 20 0113 8000 40" LABEL "0206 7FFF0000 0500 4001AB", CARRIES, LABEL, BW_DONE, BW_MAIN, 48, "AB",
+     -32768},
+    {"in the second of two Syncs", "K 26 0113 FFD0 40" LABEL "0206 01E00000 0500 0207 FC400000 4001AB", CARRIES, LABEL,
+     BW_DONE, BW_MAIN, 54, "AB", -1008},
     {"under another tag than in main", "K 18 0113 0000 40" OTHER "4001EF", "K 1A 0114 0000 8200" LABEL "820001AB",
-     LABEL, BW_DONE, BW_BACKUP, 42, "AB"},
+     LABEL, BW_DONE, BW_BACKUP, 42, "AB", 0},
     {"in a pack as long as may be", "K 82 7FED 0113 0000 40" LABEL "40 82 7FD4 {AA}32724", NOTHING, LABEL, BW_DONE,
-     BW_MAIN, 44, "{AA}32724"},
-    {"another label", CARRIES, CARRIES, OTHER, BW_ABSENT, BW_NEITHER, 0, NULL},
-    {"another last byte", CARRIES, CARRIES, "060E2B340401010D0404020D00000001", BW_ABSENT, BW_NEITHER, 0, NULL},
-    {"a payload of the same tag without a label", "K 03 4001AB", NOTHING, LABEL, BW_ABSENT, BW_NEITHER, 0, NULL},
-    {"Sync's label", "K 08 0206 00000000 0500", CARRIES, UTILITY, BW_ABSENT, BW_NEITHER, 0, NULL},
-    {"a label of 0 bytes", CARRIES, CARRIES, "", BW_ABSENT, BW_NEITHER, 0, NULL},
-    {"a label of 15 bytes", CARRIES, CARRIES, "060E2B340401010D0404020D000000", BW_ABSENT, BW_NEITHER, 0, NULL},
-    {"a label of 17 bytes", CARRIES, CARRIES, LABEL "00", BW_ABSENT, BW_NEITHER, 0, NULL},
-    {"a label of 32 bytes", CARRIES, CARRIES, LABEL LABEL, BW_ABSENT, BW_NEITHER, 0, NULL},
-    {"a label of 65,552 bytes", CARRIES, CARRIES, LABEL "{00}65536", BW_ABSENT, BW_NEITHER, 0, NULL},
+     BW_MAIN, 44, "{AA}32724", 0},
+    {"another label", CARRIES, CARRIES, OTHER, BW_ABSENT, BW_NEITHER, 0, NULL, 0},
+    {"another last byte", CARRIES, CARRIES, "060E2B340401010D0404020D00000001", BW_ABSENT, BW_NEITHER, 0, NULL, 0},
+    {"a payload of the same tag without a label", "K 03 4001AB", NOTHING, LABEL, BW_ABSENT, BW_NEITHER, 0, NULL, 0},
+    {"Sync's label", "K 08 0206 00000000 0500", CARRIES, UTILITY, BW_ABSENT, BW_NEITHER, 0, NULL, 0},
+    {"a label of 0 bytes", CARRIES, CARRIES, "", BW_ABSENT, BW_NEITHER, 0, NULL, 0},
+    {"a label of 15 bytes", CARRIES, CARRIES, "060E2B340401010D0404020D000000", BW_ABSENT, BW_NEITHER, 0, NULL, 0},
+    {"a label of 17 bytes", CARRIES, CARRIES, LABEL "00", BW_ABSENT, BW_NEITHER, 0, NULL, 0},
+    {"a label of 32 bytes", CARRIES, CARRIES, LABEL LABEL, BW_ABSENT, BW_NEITHER, 0, NULL, 0},
+    {"a label of 65,552 bytes", CARRIES, CARRIES, LABEL "{00}65536", BW_ABSENT, BW_NEITHER, 0, NULL, 0},
 };
 
 static bool try_lookup(const void *given)
@@ -382,10 +441,10 @@ static bool try_lookup(const void *given)
         size_t len;
         const uint8_t *value = bytes_of(c->value, &len);
         const lent *pack = c->from == BW_MAIN ? &main : &backup;
-        good = is_found(got, BW_DONE, len, c->from, c->start) && there == pack->bytes + c->start &&
-               memcmp(there, value, len) == 0;
+        good = is_found(got, (bw_found){BW_DONE, len, c->from, c->start, c->total}) &&
+               there == pack->bytes + c->start && memcmp(there, value, len) == 0;
     } else {
-        good = is_found(got, c->number, 0, c->from, 0) && there == NULL;
+        good = is_not_found(got, c->number, 0, c->from) && there == NULL;
     }
     lent_back(&main);
     lent_back(&backup);
@@ -396,7 +455,7 @@ static bool try_lookup(const void *given)
 static bool refused_in(const pack_case *c, const lent *main, const lent *backup, const lent *label, uint64_t from)
 {
     bw_found got = bw_lookup(main->bytes, main->len, backup->bytes, backup->len, label->bytes, label->len);
-    return is_found(got, c->number, c->value, from, 0) && bw_found_value(got, main->bytes, backup->bytes) == NULL;
+    return is_not_found(got, c->number, c->value, from) && bw_found_value(got, main->bytes, backup->bytes) == NULL;
 }
 
 /* A refused pack as main, as backup of one that has the label, as both, and before a backup and a label of 0 bytes. */
@@ -420,10 +479,10 @@ static bool try_one_range(const void *unused)
     lent pack = pack_of(CARRIES);
     const uint8_t *label = pack.bytes + 22;
     bw_found got = bw_lookup(pack.bytes, pack.len, pack.bytes, pack.len, label, BW_LABEL_SIZE);
-    bool good = is_found(got, BW_DONE, 1, BW_MAIN, 40) &&
+    bool good = is_found(got, (bw_found){BW_DONE, 1, BW_MAIN, 40, 7}) &&
                 bw_found_value(got, pack.bytes, pack.bytes) == pack.bytes + 40;
     got = bw_lookup(pack.bytes, pack.len, pack.bytes, pack.len, pack.bytes, BW_LABEL_SIZE);
-    good = good && is_found(got, BW_ABSENT, 0, BW_NEITHER, 0);
+    good = good && is_not_found(got, BW_ABSENT, 0, BW_NEITHER);
     lent_back(&pack);
     return good;
 }
@@ -670,10 +729,10 @@ static void empty_ranges(void)
     report(is(bw_scrub(NULL, 0, pack, sizeof pack, out, sizeof out), BW_DONE, 23), "bw_scrub", "NULL sheet");
     report(is(bw_sheet_check(NULL, 0), BW_DONE, 0), "bw_sheet_check", "NULL");
     bw_found absent = bw_lookup(pack, sizeof pack, pack, sizeof pack, NULL, 0);
-    report(is_found(absent, BW_ABSENT, 0, BW_NEITHER, 0), "bw_lookup", "NULL label");
+    report(is_not_found(absent, BW_ABSENT, 0, BW_NEITHER), "bw_lookup", "NULL label");
     bw_found no_backup = bw_lookup(pack, sizeof pack, NULL, 0, pack, BW_LABEL_SIZE);
-    report(is_found(no_backup, BW_SHORT, 0, BW_BACKUP, 0), "bw_lookup", "NULL backup");
-    report(is_found(bw_lookup(NULL, 0, NULL, 0, NULL, 0), BW_SHORT, 0, BW_MAIN, 0), "bw_lookup", "NULL thrice");
+    report(is_not_found(no_backup, BW_SHORT, 0, BW_BACKUP), "bw_lookup", "NULL backup");
+    report(is_not_found(bw_lookup(NULL, 0, NULL, 0, NULL, 0), BW_SHORT, 0, BW_MAIN), "bw_lookup", "NULL thrice");
     report(is(bw_pmd_read(BW_ESN, NULL, 0, NULL, 0), BW_BITS, 0), "bw_pmd_read", "NULL and NULL");
     report(is(bw_pmd_read(BW_ESN, value, sizeof value, NULL, 0), BW_NOROOM, 0), "bw_pmd_read", "NULL numbers");
     report(is(bw_pmd_write(BW_ESN, NULL, 0, NULL, 0), BW_BITS, 0), "bw_pmd_write", "NULL and NULL");
@@ -715,7 +774,7 @@ static void names(void)
     report(good, "bw_refusal_name", "first, last and beyond");
     const uint8_t *all = bytes_of(ALL, &all_len);
     report(all_len == sizeof bw_keep_all && memcmp(all, bw_keep_all, all_len) == 0, "bw_keep_all", "its bytes");
-    report(sizeof(bw_answer) == 16 && sizeof(bw_found) == 32 && sizeof(bw_gain_answer) == 12, "answers", "their sizes");
+    report(sizeof(bw_answer) == 16 && sizeof(bw_found) == 40 && sizeof(bw_gain_answer) == 12, "answers", "their sizes");
     for (int number = BW_DONE; number <= BW_ABSENT; number++)
         report(met[number], "met", bw_refusal_name((uint64_t)number));
 }
@@ -733,6 +792,7 @@ int main(int count, char **arguments)
     }
     packs();
     test(try_rows, "K 29 0113 FFFE 40" LABEL "4003 616263 0207 FFFFFFFF 080178 0304 59747E70", "bw_read", "all rows");
+    totals();
     scrubs();
     sheets();
     lookups();

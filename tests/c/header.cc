@@ -9,7 +9,7 @@ int main()
     const bw_answer empty = bw_check(nullptr, 0);
     const bw_found none = bw_lookup(nullptr, 0, nullptr, 0, nullptr, 0);
     const bool good = gain.number == BW_DONE && gain.half_db == 0 && empty.number == BW_SHORT &&
-                      none.from == BW_MAIN && bw_found_value(none, nullptr, nullptr) == nullptr;
+                      none.from == BW_MAIN && none.total == 0 && bw_found_value(none, nullptr, nullptr) == nullptr;
     std::printf("%s\n", good ? bw_refusal_name(empty.number) : "wrong");
     return good ? 0 : 1;
 }

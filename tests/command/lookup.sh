@@ -10,15 +10,15 @@ W=$T/lookup
 # emptied: a folder for OUT with nothing in it.
 emptied() { rm -rf "$W" && mkdir "$W"; }
 
-# found FROM START WANT LABEL MAIN BACKUP: the value is the file WANT, on standard output and as OUT, and one line says that it
-# is from the main or the backup pack, and where.
+# found FROM START TOTAL WANT LABEL MAIN BACKUP: the value is the file WANT, on standard output and as OUT, and one line says
+# that it is from the main or the backup pack, where, and its total offset.
 found() {
-    local pack=$5 size note
-    [[ $1 == main ]] || pack=$6
-    size=$(stat -c %s "$3")
-    note="ballastwren: $pack: the value is from the $1 pack, $size byte$([[ $size -eq 1 ]] || echo s) at byte $2"
-    writes "$3" 0 "$note" "$BW" lookup "${@:4}" && writes "$3" 0 "$note" "$BW" lookup "${@:4}" - &&
-        emptied && gives 0 '' "$note" "$BW" lookup "${@:4}" "$W/out" && cmp "$3" "$W/out" && [[ $(ls -A "$W") == out ]]
+    local pack=$6 size note
+    [[ $1 == main ]] || pack=$7
+    size=$(stat -c %s "$4")
+    note="ballastwren: $pack: the value is from the $1 pack, $size byte$([[ $size -eq 1 ]] || echo s) at byte $2, total offset $3"
+    writes "$4" 0 "$note" "$BW" lookup "${@:5}" && writes "$4" 0 "$note" "$BW" lookup "${@:5}" - &&
+        emptied && gives 0 '' "$note" "$BW" lookup "${@:5}" "$W/out" && cmp "$4" "$W/out" && [[ $(ls -A "$W") == out ]]
 }
 
 # unlooked WANT WORDS...: refused, and nothing is written.
@@ -31,13 +31,13 @@ unlooked() {
 absent() { unlooked "$1: refused: ABSENT (20) at byte 0: neither pack has a payload with this label; *" "$@"; }
 
 bytes 0100 >"$T/version" && bytes 0101 >"$T/other" && : >"$T/nothing"
-check 'lookup: both have it, it is from main' found main 74 "$T/version" $VERSIONS "$MAIN" "$BACKUP"
-check 'lookup: and from the other one, if that is main' found main 57 "$T/other" $VERSIONS "$BACKUP" "$MAIN"
-check 'lookup: in a Sync of main' found main 84 "$XYZ" $POSITIONS "$MAIN" "$BACKUP"
-check 'lookup: in a Sync of backup' found backup 84 "$XYZ" $POSITIONS "$BACKUP" "$MAIN"
-check 'lookup: main maps it and has none; the first of backup' found backup 70 "$AEN" $NAMES "$MAIN" "$BACKUP"
-check 'lookup: main has no Config' found backup 70 "$AEN" $NAMES "$SAMPLES/packs/empty.pack" "$BACKUP"
-check 'lookup: one file as both packs' found main 74 "$T/version" $VERSIONS "$MAIN" "$MAIN"
+check 'lookup: both have it, it is from main' found main 74 0 "$T/version" $VERSIONS "$MAIN" "$BACKUP"
+check 'lookup: and from the other one, if that is main' found main 57 0 "$T/other" $VERSIONS "$BACKUP" "$MAIN"
+check 'lookup: in a Sync of main' found main 84 480 "$XYZ" $POSITIONS "$MAIN" "$BACKUP"
+check 'lookup: in a Sync of backup' found backup 84 480 "$XYZ" $POSITIONS "$BACKUP" "$MAIN"
+check 'lookup: main maps it and has none; the first of backup' found backup 70 480 "$AEN" $NAMES "$MAIN" "$BACKUP"
+check 'lookup: main has no Config' found backup 70 480 "$AEN" $NAMES "$SAMPLES/packs/empty.pack" "$BACKUP"
+check 'lookup: one file as both packs' found main 74 0 "$T/version" $VERSIONS "$MAIN" "$MAIN"
 check 'lookup: neither has it' absent $SUBSTREAMS "$MAIN" "$BACKUP"
 check 'lookup: both map it and have none' absent $NAMES "$MAIN" "$MAIN"
 check 'lookup: packs without items' absent $VERSIONS "$SAMPLES/packs/empty.pack" "$SAMPLES/packs/empty.pack"
@@ -52,26 +52,34 @@ MAPPED="0113000040$NAMES"
 bytes "$KEY" 17 "$MAPPED" 4000 >"$T/hollow" && bytes "$KEY" 18 "$MAPPED" 400107 >"$T/one" && bytes 07 >"$T/07"
 bytes "$KEY" 23 "$MAPPED" 410199 02070000000040012A 4000 >"$T/synced" && bytes 2A >"$T/2A"
 head -c $((0x7FD4)) /dev/zero >"$T/zeros" && { bytes "$KEY" 827FED "$MAPPED" 40827FD4 && cat "$T/zeros"; } >"$T/largest"
-check 'lookup: a value of 0 bytes is a value' found main 40 "$T/nothing" $NAMES "$T/hollow" "$BACKUP"
-check 'lookup: a value of 0 bytes, from backup' found backup 40 "$T/nothing" $NAMES "$MAIN" "$T/hollow"
-check 'lookup: a value of 1 byte' found main 40 "$T/07" $NAMES "$T/one" "$BACKUP"
-check 'lookup: in a Sync before one of 0 bytes' found main 49 "$T/2A" $NAMES "$T/synced" "$T/one"
-check 'lookup: the longest value' found backup 44 "$T/zeros" $NAMES "$MAIN" "$T/largest"
+check 'lookup: a value of 0 bytes is a value' found main 40 0 "$T/nothing" $NAMES "$T/hollow" "$BACKUP"
+check 'lookup: a value of 0 bytes, from backup' found backup 40 0 "$T/nothing" $NAMES "$MAIN" "$T/hollow"
+check 'lookup: a value of 1 byte' found main 40 0 "$T/07" $NAMES "$T/one" "$BACKUP"
+check 'lookup: in a Sync before one of 0 bytes' found main 49 0 "$T/2A" $NAMES "$T/synced" "$T/one"
+check 'lookup: the longest value' found backup 44 0 "$T/zeros" $NAMES "$MAIN" "$T/largest"
 
-# stretches PACK: of each PMD label, the stretch of the pack that `pmd find` tells first.
+# Packs of offset 32,767 that map it: in a Sync of the same offset, and after one that does not have it.
+MAPPED="01137FFF40$NAMES"
+bytes "$KEY" 1E "$MAPPED" 02077FFF000040012A >"$T/highest" && bytes "$KEY" 20 "$MAPPED" 0206800000004100 40012A >"$T/after"
+check 'lookup: the highest total offset' found main 46 65534 "$T/2A" $NAMES "$T/highest" "$BACKUP"
+check 'lookup: the highest total offset, from backup' found backup 46 65534 "$T/2A" $NAMES "$MAIN" "$T/highest"
+check 'lookup: the lowest total offset' found main 49 -65536 "$XYZ" $POSITIONS "$SAMPLES/packs/lowest-offsets.pack" "$BACKUP"
+check 'lookup: after a Sync the pack offset alone' found main 48 32767 "$T/2A" $NAMES "$T/after" "$BACKUP"
+
+# stretches PACK: of each PMD label, the stretch of the pack and the total offset that `pmd find` tells first.
 stretches() {
-    local label start length count=0
+    local label start length total count=0
     "$BW" pmd find --json "$1" 2>/dev/null |
-        sed -nE 's/.*"label":"([0-9A-F]+)".*"value_start":([0-9]+),"value_length":([0-9]+).*/\1 \2 \3/p' |
+        sed -nE 's/.*"label":"([0-9A-F]+)".*"value_start":([0-9]+),"value_length":([0-9]+),"total_offset":(-?[0-9]+).*/\1 \2 \3 \4/p' |
         awk '!seen[$1]++' >"$T/labels"
-    while read -r label start length; do
+    while read -r label start length total; do
         tail -c +$((start + 1)) "$1" | head -c "$length" >"$T/stretch"
-        found main "$start" "$T/stretch" "$label" "$1" "$BACKUP" || return
+        found main "$start" "$total" "$T/stretch" "$label" "$1" "$BACKUP" || return
         count=$((count + 1))
     done <"$T/labels"
     [[ $count -gt 0 ]]
 }
-for file in "$SAMPLES"/packs/{incident,each-kind,same-kept-a,same-kept-b,bad-value,main,backup}.pack; do
+for file in "$SAMPLES"/packs/{incident,each-kind,same-kept-a,same-kept-b,bad-value,main,backup,lowest-offsets,highest-offsets}.pack; do
     check "lookup: every PMD label of ${file##*/}" stretches "$file"
 done
 
@@ -98,7 +106,7 @@ check 'lookup: an empty backup' unlooked "$T/nothing: backup pack: $told" $VERSI
 bytes 0001 0008 0000 0018 $VERSIONS >"$T/sheet"
 spelled() {
     printf 'label %s\n' "$1" >"$T/text" && writes "$T/sheet" 0 '' "$BW" sheet make "$T/text" &&
-        writes "$T/version" 0 '*main pack, 2 bytes at byte 74' "$BW" lookup "$1" "$MAIN" "$BACKUP"
+        writes "$T/version" 0 '*main pack, 2 bytes at byte 74, total offset 0' "$BW" lookup "$1" "$MAIN" "$BACKUP"
 }
 for label in $VERSIONS ${VERSIONS,,} 060e2B340401010d0404020400000000 06.0E.2B.34.04.01.01.0D.04.04.02.04.00.00.00.00 \
     06.0e.2b.34.04.01.01.0d.04.04.02.04.00.00.00.00 060E2B34.0401010D.04040204.00000000 06.0E2B340401010d04040204000000.00; do
@@ -123,9 +131,9 @@ check 'lookup: a line end after a label' gives 2 '' '*00\\x0A: is not a label: *
 check 'lookup: standard input is no label' gives 2 '' '*: -: is not a label: *' "$BW" lookup - "$MAIN" "$BACKUP"
 
 check 'lookup: main on standard input' writes "$T/version" 0 \
-    'ballastwren: standard input: the value is from the main pack, 2 bytes at byte 74' from "$MAIN" "$BW" lookup $VERSIONS - "$BACKUP"
+    'ballastwren: standard input: the value is from the main pack, 2 bytes at byte 74, total offset 0' from "$MAIN" "$BW" lookup $VERSIONS - "$BACKUP"
 check 'lookup: backup on standard input' writes "$AEN" 0 \
-    'ballastwren: standard input: the value is from the backup pack, 20 bytes at byte 70' from "$BACKUP" "$BW" lookup $NAMES "$MAIN" -
+    'ballastwren: standard input: the value is from the backup pack, 20 bytes at byte 70, total offset 480' from "$BACKUP" "$BW" lookup $NAMES "$MAIN" -
 check 'lookup: backup on standard input is refused' gives 1 '' 'ballastwren: standard input: backup pack: refused: CRC (13)*' \
     from "$BAD" "$BW" lookup $VERSIONS "$MAIN" -
 check 'lookup: both on standard input' gives 2 '' '*: -: standard input can be read only once*' from "$MAIN" "$BW" lookup $VERSIONS - -

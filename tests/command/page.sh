@@ -6,7 +6,7 @@ check 'manual page: mandoc finds no fault' gives 0 '' '' mandoc -Tlint -W all to
 mandoc -Tascii -O width=200 tools/ballastwren.1 | sed $'s/.\b//g' >"$T/page"
 documented() { grep -q -- "$1" "$T/page"; }
 for word in 'ballastwren check' 'ballastwren list' 'ballastwren scrub' 'ballastwren lookup' 'sheet make' 'sheet show' 'pmd read' 'pmd write' \
-    'pmd find' --sheet --report --numbers --json '19 KIND' '20 ABSENT'; do
+    'pmd find' --sheet --report --numbers --json 'list \[--json\] pack' pack_offset sample_offset total_offset '19 KIND' '20 ABSENT'; do
     check "manual page: $word" documented "$word"
 done
 
@@ -27,6 +27,8 @@ check 'completion: the second word' completes 'make show --help' ballastwren she
 check 'completion: kinds' completes 'APD APN AOD AEN' ballastwren pmd read A
 check 'completion: a kind of ED2' completes 'ESN ETD' ballastwren pmd write E
 check 'completion: options' completes '--sheet --report --help' ballastwren scrub --
+check 'completion: options of list' completes '--json --help' ballastwren list -
+check 'completion: a pack after --json' completes 'samples/packs/full.pack' ballastwren list --json samples/packs/fu
 check 'completion: options of pmd write' completes '--numbers --json --help' ballastwren pmd write -
 check 'completion: files' completes 'samples/packs/full.pack' ballastwren check samples/packs/fu
 check 'completion: the file of an option' completes 'samples/sheets/rack.sheet' ballastwren scrub --sheet samples/sheets/rack.s

@@ -215,16 +215,16 @@ for list in '1 27 5568' '28506 0 5568' '1 0 61274'; do
 done
 check 'pmd write --numbers: not a number' bare "FIELD (17) at line 2: '-1' stands where a number is due" '1\n-1\n'
 
-check 'pmd find: every kind, in and out of Syncs' gives 0 "PMD Version at byte 177, value bytes: 2
+check 'pmd find: every kind, in and out of Syncs' gives 0 "PMD Version at byte 177, value bytes: 2, total offset 0
   values of this kind are not decoded
-Audio Bed Description at byte 181, value bytes: 1
+Audio Bed Description at byte 181, value bytes: 1, total offset 0
   values of this kind are not decoded
-APD Audio Presentation Description at byte 184, value bytes: 17
+APD Audio Presentation Description at byte 184, value bytes: 17, total offset 0
   presentation 1 speakers 5.1.4*
 APN*
 AEN*
 ESN*
-ETD ED2 Turnaround Description at byte 266, value bytes: 24
+ETD ED2 Turnaround Description at byte 266, value bytes: 24, total offset 0
   turnaround 1 ed2 yes rate 25 pairs 1:1 2:9 0:0 dolby_e yes*
   turnaround 255 ed2 no dolby_e no
 AOD Audio Object Description at byte *, in the Sync at byte *
@@ -233,6 +233,15 @@ XYZ Dynamic Position Update at byte *, in the Sync at byte *
 *" '' "$BW" pmd find "$SAMPLES/packs/each-kind.pack"
 check 'pmd find --numbers' gives 0 $'*ESN*\n  1 65 0\nETD*\n  1 1 3 * 255 0 0\nAOD*' '' "$BW" pmd find --numbers "$SAMPLES/packs/each-kind.pack"
 check 'pmd find --json' writes tests/command/json/each-kind.json 0 '' "$BW" pmd find --json "$SAMPLES/packs/each-kind.pack"
+check 'pmd find: total offsets' gives 0 'XYZ * at byte 47, in the Sync at byte 41, value bytes: 12, total offset -65536
+*
+XYZ * at byte 61, value bytes: 12, total offset -32768
+*
+XYZ * at byte 84, in the Sync at byte 75, value bytes: 12, total offset -1
+*' '' "$BW" pmd find "$SAMPLES/packs/lowest-offsets.pack"
+check 'pmd find --json: total offsets' gives 0 '\[{"start":47,"sync":41,*,"value_length":12,"total_offset":65534,*
+ {"start":61,"sync":null,*,"total_offset":32767,*
+ {"start":84,"sync":75,*,"total_offset":-1,"kind":4,"name":"XYZ",*}\]' '' "$BW" pmd find --json "$SAMPLES/packs/highest-offsets.pack"
 check 'pmd find: a value that is refused' gives 1 $'APN*\n  refused 16 264\nAPN*name "Main mix"*' '*bad-value.pack: payload at byte 38: refused: BITS (16) at bit 264: *' \
     "$BW" pmd find "$SAMPLES/packs/bad-value.pack"
 check 'pmd find --json: a value that is refused' writes tests/command/json/bad-value.json 1 '*BITS (16)*' \

@@ -35,3 +35,6 @@ same_list() {
     for ((i = 0; i < 200; i++)); do as_list "$R/$i" || { echo "file $i of the last batch"; return 1; }; done
 }
 check 'list: 200 random files as the program list prints them' same_list
+if command -v python3 >/dev/null; then
+    check 'list --json: 200 random files say what the text does' as_json "$R"/{0..199}
+fi

@@ -17,12 +17,22 @@ check 'scrub: the bench example' scrubbed "$T/kept" "$ALL" "$SAMPLES/packs/numbe
 check 'scrub: a longer length form leaves no trace' scrubbed "$T/kept" "$ALL" "$SAMPLES/packs/long-length.pack"
 "$BW" scrub --sheet "$RACK" "$SAMPLES/packs/incident.pack" "$T/clean"
 check 'scrub: the incident' gives 0 'pack -48 6 good
-label 90 060E2B340401010D0404020400000000 2
-label 94 060E2B340401010D0404020700000000 17
-label 113 060E2B340401010D0404020600000000 17
-number 132 70 4
+label 90 060E2B340401010D0404020400000000 2 -48
+label 94 060E2B340401010D0404020700000000 17 -48
+label 113 060E2B340401010D0404020600000000 17 -48
+number 132 70 4 -48
 sync 138 480 1920 1
-label 144 060E2B340401010D0404020D00000000 12' '' "$BW" list "$T/clean"
+label 144 060E2B340401010D0404020D00000000 12 432' '' "$BW" list "$T/clean"
+"$BW" scrub --sheet "$RACK" "$SAMPLES/packs/lowest-offsets.pack" "$T/lowest"
+check 'scrub: the lowest offsets' gives 0 'pack -32768 8 good
+number 38 70 1 -32768
+sync 41 -32768 1920 1
+label 47 * 12 -65536
+label 61 * 12 -32768
+sync 75 32767 1920 2
+number 81 70 1 -1
+label 84 * 12 -1
+number 98 70 1 -32768' '' "$BW" list "$T/lowest"
 check 'scrub: again gives the same pack' scrubbed "$T/clean" "$RACK" "$T/clean"
 "$BW" scrub --sheet "$NONE" "$SAMPLES/packs/incident.pack" "$T/none"
 check 'scrub: nothing kept' gives 0 'pack -48 0 good' '' "$BW" list "$T/none"

@@ -10,6 +10,8 @@ for words in check list scrub lookup 'sheet make' 'sheet show' 'pmd read' 'pmd w
     check "$words --help" gives 0 "ballastwren $words *" '' "$BW" "${split[@]}" --help
     check "$words: is in --help" gives 0 "*ballastwren $words *" '' "$BW" --help
 done
+check 'list --help: JSON' gives 0 'ballastwren list \[--json\] PACK*  --json *JSON*' '' "$BW" list --help
+check '--help: JSON of list' gives 0 '*ballastwren list \[--json\] PACK *' '' "$BW" --help
 check 'sheet --help' gives 0 '*sheet make*sheet show*' '' "$BW" sheet --help
 check 'pmd --help' gives 0 '*pmd read*pmd write*pmd find*' '' "$BW" pmd --help
 
@@ -18,7 +20,14 @@ check 'no such subcommand' gives 2 '' '*frobnicate: no such subcommand*' "$BW" f
 check 'half a subcommand' gives 2 '' '*sheet: no such subcommand*' "$BW" sheet
 check 'no such option' gives 2 '' '*--json: no such option*' "$BW" check --json "$PACK"
 check 'an option of another subcommand' gives 2 '' '*--report: no such option*' "$BW" list --report "$PACK"
+check 'list takes no --numbers' gives 2 '' '*--numbers: no such option*' "$BW" list --numbers "$PACK"
+check 'list takes no --numbers beside --json' gives 2 '' '*--numbers: no such option*' "$BW" list --json --numbers "$PACK"
+for words in 'scrub --sheet S' lookup 'sheet make' 'sheet show'; do
+    read -ra split <<<"$words"
+    check "${words%% --*} takes no --json" gives 2 '' '*--json: no such option*' "$BW" "${split[@]}" --json
+done
 check 'an operand missing' gives 2 '' '*check: an operand is missing*' "$BW" check
+check 'an option and no operand' gives 2 '' '*list: an operand is missing*' "$BW" list --json
 check 'an operand too many' gives 2 '' '*b: one operand too many*' "$BW" list a b
 check 'scrub without a sheet' gives 2 '' '*--sheet SHEET is missing*' "$BW" scrub "$PACK" "$T/x"
 check '--sheet without its file' gives 2 '' '*--sheet: no such option here, or it lacks its argument*' \

@@ -125,7 +125,7 @@ unreported() {
 check 'write: a report to a full device' unreported /dev/full
 check 'write: a report to a closed output' unreported '&-'
 
-for words in 'check PACK' 'list PACK' "lookup $LABEL PACK PACK" 'sheet show SHEET' 'pmd find PACK' --help --version; do
+for words in 'check PACK' 'list PACK' 'list --json PACK' "lookup $LABEL PACK PACK" 'sheet show SHEET' 'pmd find PACK' --help --version; do
     words=${words//PACK/$PACK} words=${words/SHEET/$RACK}
     check "standard output is full: ${words%% /*}" gives 2 '' '*standard output: No space left on device' sh -c "'$BW' $words >/dev/full"
     check "standard output is closed: ${words%% /*}" gives 2 '' '*standard output: Bad file descriptor' sh -c "'$BW' $words >&-"
@@ -140,6 +140,7 @@ closed_pipe() {
     [[ $? -eq 2 ]] && grep -q 'standard output: Broken pipe' "$T/err"
 }
 check 'a closed pipe: list' closed_pipe list "$PACK"
+check 'a closed pipe: list --json' closed_pipe list --json "$PACK"
 check 'a closed pipe: scrub' closed_pipe scrub --sheet "$RACK" "$PACK" -
 check 'a closed pipe: lookup' closed_pipe lookup $LABEL "$PACK" "$PACK"
 check 'a closed pipe: pmd write' closed_pipe pmd write APN "$SAMPLES/values/apn.txt"

@@ -37,18 +37,38 @@ impl Outcome {
         self.buffer.as_chunks().0.iter().map(|&four| u32::from_le_bytes(four)).collect()
     }
 
-    /// `from` and `start` of a look-up.
-    pub fn found(&self) -> (u64, u64) {
+    /// What a look-up has beside its answer.
+    pub fn beside(&self) -> Beside {
         let mut rest = &self.buffer[..];
-        (u64::from_le_bytes(take(&mut rest)), u64::from_le_bytes(take(&mut rest)))
+        Beside {
+            from: u64::from_le_bytes(take(&mut rest)),
+            start: u64::from_le_bytes(take(&mut rest)),
+            total: i64::from_le_bytes(take(&mut rest)),
+        }
     }
 }
 
-/// What C gets of a look-up beside its answer: `from` and `start` of eight bytes each, and the value as it stands where
+/// The numbers of a look-up beside its answer: which pack, where the value starts, and its payload's total offset.
+#[derive(Clone, Copy, Debug, Default, PartialEq, Eq)]
+pub struct Beside {
+    pub from: u64,
+    pub start: u64,
+    pub total: i64,
+}
+
+impl Beside {
+    /// Those of a refusal, of which only the pack at fault is told.
+    pub fn refused(from: u64) -> Self {
+        Self { from, ..Self::default() }
+    }
+}
+
+/// What C gets of a look-up beside its answer: its numbers of eight bytes each, and the value as it stands where
 /// `bw_found_value` points; then zeros, for as long as a value in one of these packs could be.
-pub fn found_buffer(main: &[u8], backup: &[u8], (from, start): (u64, u64), value: &[u8]) -> Vec<u8> {
-    let mut buffer = [&from.to_le_bytes(), &start.to_le_bytes(), value].concat();
-    buffer.resize(16 + main.len().max(backup.len()), 0);
+pub fn found_buffer(main: &[u8], backup: &[u8], beside: Beside, value: &[u8]) -> Vec<u8> {
+    let Beside { from, start, total } = beside;
+    let mut buffer = [&from.to_le_bytes(), &start.to_le_bytes(), &total.to_le_bytes(), value].concat();
+    buffer.resize(24 + main.len().max(backup.len()), 0);
     buffer
 }
 
@@ -125,7 +145,7 @@ fn encode(call: &Call, guard_after: bool, batch: &mut Vec<u8>) {
         Call::SheetCheck { sheet } => (3, 0, [sheet, &[], &[]], vec![]),
         // Ranges that are only read may overlap: packs that are the same are lent as one.
         Call::Lookup { main, backup, label } => {
-            (4, u32::from(main == backup), [main, backup, label], found_buffer(main, backup, (0, 0), &[]))
+            (4, u32::from(main == backup), [main, backup, label], found_buffer(main, backup, Beside::default(), &[]))
         }
         Call::PmdRead { kind, value, numbers } => (5, *kind, [value, &[], &[]], four_each(numbers)),
         Call::PmdWrite { kind, numbers, out } => {

@@ -2,7 +2,7 @@
 
 use reference::{Found, Gain, LookupRefusal, Mark, Refusal};
 
-use crate::archive::{found_buffer, four_each, Answer, Call, Outcome};
+use crate::archive::{found_buffer, four_each, Answer, Beside, Call, Outcome};
 
 pub fn outcome(call: &Call) -> Outcome {
     match call {
@@ -44,11 +44,12 @@ fn lookup_told(main: &[u8], backup: &[u8], label: &[u8]) -> Outcome {
         Mark::Backup => 2,
     };
     match reference::lookup(main, backup, label) {
-        Ok(Found { mark, start, value }) => {
-            told(Ok(value.len()), found_buffer(main, backup, (from(mark), start as u64), value))
+        Ok(Found { mark, start, value, total }) => {
+            let beside = Beside { from: from(mark), start: start as u64, total: total.into() };
+            told(Ok(value.len()), found_buffer(main, backup, beside, value))
         }
         Err(LookupRefusal { refusal, mark }) => {
-            told(Err(refusal), found_buffer(main, backup, (mark.map_or(0, from), 0), &[]))
+            told(Err(refusal), found_buffer(main, backup, Beside::refused(mark.map_or(0, from)), &[]))
         }
     }
 }

@@ -45,12 +45,31 @@ pub struct Said {
     pub items: Vec<Item>,
 }
 
+/// The number that 16 bits stand for in two's complement.
+pub fn signed(bits: u16) -> i64 {
+    (bits as i16).into()
+}
+
 impl Said {
     pub fn payloads(&self) -> impl Iterator<Item = &Payload> {
-        self.items.iter().flat_map(|item| match item {
-            Item::Single(payload) => std::slice::from_ref(payload),
-            Item::Sync { inside, .. } => inside,
+        self.with_totals().map(|(payload, _)| payload)
+    }
+
+    /// The payloads in byte order, each with its total offset: the pack's alone, or the sum of that and its Sync's.
+    pub fn with_totals(&self) -> impl Iterator<Item = (&Payload, i64)> {
+        self.items.iter().flat_map(|item| {
+            let (payloads, of_sync) = match item {
+                Item::Single(payload) => (std::slice::from_ref(payload), 0),
+                Item::Sync { offset, inside, .. } => (&inside[..], signed(*offset)),
+            };
+            let total = signed(self.offset) + of_sync;
+            payloads.iter().map(move |payload| (payload, total))
         })
+    }
+
+    /// The total offsets alone.
+    pub fn totals(&self) -> Vec<i64> {
+        self.with_totals().map(|(_, total)| total).collect()
     }
 
     /// Items and inner payloads together.

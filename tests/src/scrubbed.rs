@@ -1,5 +1,6 @@
-//! What a scrub must write, by a layout of its own, and what rows of `bw_read` say.
+//! What a scrub must write, by a layout of its own, and what rows of `bw_read` say, as they stand and as a listing.
 
+use crate::archive::hex;
 use crate::packs::{tag_bytes, Item, Label, Length, Name, Pack, Part, Payload, Said, Value, KEY};
 
 /// The pack that a scrub writes if it keeps exactly this.
@@ -61,6 +62,27 @@ pub fn said_by(pack: &[u8], rows: &[u32]) -> Said {
         }
     }
     said
+}
+
+/// The total offsets of the payloads in the rows of a reading.
+pub fn totals_by(rows: &[u32]) -> Vec<i64> {
+    rows.chunks(8).skip(1).filter(|row| row[0] != 1).map(|row| (row[6] as i32).into()).collect()
+}
+
+/// The lines of the listing that the rows of a pack's reading stand for.
+pub fn lines_by(pack: &[u8], rows: &[u32]) -> Vec<String> {
+    let crc = if rows[1] == 1 { "good" } else { "none" };
+    let first = format!("pack {} {} {crc}", rows[0] as i32, rows[2]);
+    std::iter::once(first).chain(rows.chunks(8).skip(1).map(|row| line_by(pack, row))).collect()
+}
+
+fn line_by(pack: &[u8], row: &[u32]) -> String {
+    let (start, name, size, offset) = (row[1], row[3], row[5], row[6] as i32);
+    match row[2] {
+        0 => format!("number {start} {name} {size} {offset}"),
+        1 => format!("label {start} {} {size} {offset}", hex(&label_at(pack, name))),
+        _ => format!("sync {start} {offset} {} {name}", row[7]),
+    }
 }
 
 fn label_at(pack: &[u8], at: u32) -> Label {

@@ -1,7 +1,7 @@
 //! The archive and the reference give the same answer, the same place and the same whole buffer on generated inputs,
 //! and every refusal that a function can give is met.
 
-use ballastwren_tests::archive::{Answer, Archive, Call};
+use ballastwren_tests::archive::{Answer, Archive, Beside, Call};
 use ballastwren_tests::damage::damaged;
 use ballastwren_tests::lookups::{any_asked, Asked};
 use ballastwren_tests::oracle;
@@ -148,6 +148,7 @@ struct Looked {
     of: [Tally; 3],
     both_refused: usize,
     in_a_sync: usize,
+    beyond_16_bits: usize,
     empty: usize,
     unused_in_main: usize,
     no_label: usize,
@@ -157,12 +158,13 @@ impl Looked {
     fn add(&mut self, call: &Call) {
         let Call::Lookup { main, backup, label } = call else { panic!("a look-up") };
         let told = oracle::outcome(call);
-        let (from, start) = told.found();
+        let Beside { from, start, total } = told.beside();
         self.of[from as usize].add(told.answer.number);
         let refused = |pack: &[u8]| oracle::outcome(&Call::Check { pack: pack.to_vec() }).answer.number != 0;
         match (told.answer, from) {
             (Answer { number: 0, value }, _) => {
                 self.in_a_sync += usize::from(stands_in_a_sync(if from == 1 { main } else { backup }, start));
+                self.beyond_16_bits += usize::from(i16::try_from(total).is_err());
                 self.empty += usize::from(value == 0);
                 self.unused_in_main += usize::from(from == 2 && main.windows(16).any(|part| part == label));
             }
@@ -195,6 +197,7 @@ fn bw_lookup_agrees() {
     let met = [
         ("both packs refused", looked.both_refused),
         ("found in a Sync", looked.in_a_sync),
+        ("a total offset that 16 bits do not hold", looked.beyond_16_bits),
         ("a value of 0 bytes", looked.empty),
         ("mapped and not used in main, found in backup", looked.unused_in_main),
         ("absent, and not of 16 bytes", looked.no_label),

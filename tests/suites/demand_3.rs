@@ -7,7 +7,7 @@ use ballastwren_tests::archive::{hex, Archive, Call, Outcome};
 use ballastwren_tests::packs::{any_label, any_said, any_tag, any_u16, dressed, Item, Name, Payload, Said};
 use ballastwren_tests::random::Random;
 use ballastwren_tests::runs::{inputs, seed};
-use ballastwren_tests::scrubbed::{said_by, scrubbed};
+use ballastwren_tests::scrubbed::{said_by, scrubbed, totals_by};
 use ballastwren_tests::sheets::{Sheet, KEEP_ALL};
 
 const PAIRS: usize = 40_000;
@@ -152,9 +152,10 @@ fn equal_kept_items_give_equal_buffers_and_are_read_back() {
         let (pairs, reads): (Vec<&Pair>, Vec<Call>) = written.unzip();
         for ((pair, call), outcome) in pairs.iter().zip(&reads).zip(archive.outcomes(&reads)) {
             let Call::Read { pack, .. } = call else { panic!("it is read") };
-            let rows = outcome.numbers();
             assert_eq!((outcome.answer.number, outcome.answer.value), (0, 8 * (1 + pair.kept.count() as u64)));
-            assert_eq!(said_by(pack, &rows[..outcome.answer.value as usize]), pair.kept);
+            let rows = &outcome.numbers()[..outcome.answer.value as usize];
+            assert_eq!(said_by(pack, rows), pair.kept);
+            assert_eq!(totals_by(rows), pair.kept.totals());
             assert_eq!(rows[1], 1, "a scrubbed pack has a CRC");
         }
     }

@@ -3,10 +3,11 @@
 use std::fs;
 use std::path::Path;
 
-use ballastwren_tests::archive::{found_buffer, hex, Answer, Archive, Call, Outcome};
+use ballastwren_tests::archive::{found_buffer, hex, Answer, Archive, Beside, Call, Outcome};
 use ballastwren_tests::packs::{dressed, Item, Label, Name, Payload, Said, KEY};
 use ballastwren_tests::random::Random;
 use ballastwren_tests::runs::say;
+use ballastwren_tests::scrubbed::lines_by;
 
 /// Runs one file of vectors.
 fn run(file: &str) {
@@ -61,20 +62,7 @@ fn read_told(archive: &mut Archive, pack: Vec<u8>) -> String {
         return outcome(read.answer);
     }
     assert_eq!((checked.number, 8 * (checked.value + 1)), (0, read.answer.value));
-    let rows = read.numbers();
-    let crc = if rows[1] == 1 { "good" } else { "none" };
-    let mut lines = vec![format!("pack {} {} {crc}", rows[0] as i32, rows[2])];
-    lines.extend(rows[8..read.answer.value as usize].chunks(8).map(|row| line(&pack, row)));
-    lines.join("|")
-}
-
-fn line(pack: &[u8], row: &[u32]) -> String {
-    let (start, name, size) = (row[1], row[3], row[5]);
-    match row[2] {
-        0 => format!("number {start} {name} {size}"),
-        1 => format!("label {start} {} {size}", hex(&pack[name as usize..][..16])),
-        _ => format!("sync {start} {} {} {name}", row[6] as i32, row[7]),
-    }
+    lines_by(&pack, &read.numbers()[..read.answer.value as usize]).join("|")
 }
 
 /// A sheet shows what it is by its check, and by what it keeps of a pack that has all its names and another.
@@ -115,15 +103,23 @@ fn names(results: &str) -> Vec<Name> {
 fn lookup_told(archive: &mut Archive, label: &[u8], main: &[u8], backup: &[u8]) -> String {
     let (main, backup, label) = (main.to_vec(), backup.to_vec(), label.to_vec());
     let got = archive.outcome(&Call::Lookup { main: main.clone(), backup: backup.clone(), label });
-    let (from, start) = got.found();
+    let Beside { from, start, total } = got.beside();
     let (mark, pack) = [("neither", &[][..]), ("main", &main), ("backup", &backup)][from as usize];
     if got.answer.number != 0 {
-        assert_eq!(got.buffer, found_buffer(&main, &backup, (from, 0), &[]));
+        assert_eq!(got.buffer, found_buffer(&main, &backup, Beside::refused(from), &[]));
         return format!("{} {mark}", outcome(got.answer));
     }
     let value = &pack[start as usize..][..got.answer.value as usize];
-    assert_eq!(got.buffer, found_buffer(&main, &backup, (from, start), value));
+    assert_eq!(total, total_at(archive, pack, start));
+    assert_eq!(got.buffer, found_buffer(&main, &backup, Beside { from, start, total }, value));
     format!("ok {mark} {start} {}", value.len())
+}
+
+/// The total offset that a reading has for the payload whose value starts there; the vectors of look-ups have none.
+fn total_at(archive: &mut Archive, pack: &[u8], start: u64) -> i64 {
+    let rows = archive.outcome(&Call::Read { pack: pack.to_vec(), rows: vec![0; 520] }).numbers();
+    let row = rows.chunks(8).skip(1).find(|row| row[0] != 1 && u64::from(row[4]) == start);
+    (row.expect("the payload has a row")[6] as i32).into()
 }
 
 fn gain_told(got: Outcome) -> String {
@@ -169,12 +165,12 @@ fn or_dash(text: String) -> String {
 
 #[test]
 fn requests() {
-    run("2026-04.tsv");
+    run("2026-05.tsv");
 }
 
 #[test]
 fn tiny() {
-    run("tiny.tsv");
+    run("tiny-2026-05.tsv");
 }
 
 /// The key of the vectors is the key of these tests.

@@ -3,6 +3,7 @@ use mathlib.Core.Path.{_≡_, refl, sym, ap, ap₂, subst, _∙_}
 use mathlib.Core.List.{List, [], _∷_}
 use mathlib.Core.Logic.{_⊎_, inl, inr}
 use Prim.Native.Nat.{ℕ, zero, suc}
+use lib.IntN.{pos}
 use lib.ListN.{length}
 use borrow.Author.Tests.{le-leb}
 use Rattle.runs.specs.Digits.{Bytes}
@@ -27,7 +28,7 @@ use Rattle.lookup.specs.declared.Found.the-variants as F
 use Rattle.lookup.proofs.Looked.{looked-both}
 use Rattle.lookup.proofs.Means.{Means, strange-none, first-named, same-said, lookup-means}
 use Rattle.ballastwren.specs.Told.{toldOf, markNumber, toldFoundOf}
-use Rattle.ballastwren.specs.Looked.{FirstTold, PartTold, absentTold}
+use Rattle.ballastwren.specs.Looked.{FirstTold, TotalTold, PartTold, absentTold}
 use Rattle.ballastwren.specs.declared.Told.{Told}
 use Rattle.ballastwren.specs.declared.ToldFound.{ToldFound}
 use Rattle.ballastwren.proofs.Edge.{done-told}
@@ -53,13 +54,14 @@ marks-apart : (m n : Mark) → markNumber m ≡ markNumber n → m ≡ n
 marks-apart m n e = sym (mark-back m) ∙ ap markOf e ∙ mark-back n
 
 pub found-apart : (a b : Found) → toldFoundOf a ≡ toldFoundOf b → a ≡ b
-found-apart (F.At m v l) (F.At n w k) e =
+found-apart (F.At m v l x) (F.At n w k y) e =
     let from = marks-apart m n (ap (λ (t : ToldFound). t .from) e) in
     let start : v ≡ w = ap (λ (t : ToldFound). t .start) e in
     let len : l ≡ k = ap (λ (t : ToldFound). t .value) e in
+    let total : x ≡ y = ap (λ (t : ToldFound). t .total) e in
     cc
-found-apart (F.At m v l) (F.Refused why p n) e = never why p (sym (ap (λ (t : ToldFound). t .number) e))
-found-apart (F.Refused why p n) (F.At m v l) e = never why p (ap (λ (t : ToldFound). t .number) e)
+found-apart (F.At m v l x) (F.Refused why p n) e = never why p (sym (ap (λ (t : ToldFound). t .number) e))
+found-apart (F.Refused why p n) (F.At m v l x) e = never why p (ap (λ (t : ToldFound). t .number) e)
 found-apart (F.Refused why p m) (F.Refused other q n) e =
     let reason = numbers-apart why other (ap (λ (t : ToldFound). t .number) e) in
     let place : p ≡ q = ap (λ (t : ToldFound). t .value) e in
@@ -73,8 +75,8 @@ counted o = toldOf (answered (λ (r : Read). countOf (r .body .parts)) o)
 
 abbrev InOrder : Told → Told → ToldFound → Type 0
 InOrder c d a =
-    ((c .number ≡ 0 → ⊥) → a ≡ record { number = c .number; value = c .value; from = 1; start = 0 })
-    × (c .number ≡ 0 → (d .number ≡ 0 → ⊥) → a ≡ record { number = d .number; value = d .value; from = 2; start = 0 })
+    ((c .number ≡ 0 → ⊥) → a ≡ record { number = c .number; value = c .value; from = 1; start = 0; total = pos 0 })
+    × (c .number ≡ 0 → (d .number ≡ 0 → ⊥) → a ≡ record { number = d .number; value = d .value; from = 2; start = 0; total = pos 0 })
     × (c .number ≡ 0 → d .number ≡ 0 → (a .number ≡ 0) ⊎ (a ≡ absentTold))
 
 abbrev absent : Found
@@ -117,33 +119,39 @@ module _ (main backup l : List ℕ) {a : ToldFound} (x : a ≡ toldFoundOf (look
 -- WHAT IS FOUND
 
 first-of : {main backup l : List ℕ} (f : Found) → Means main backup l f → (toldFoundOf f) .number ≡ 0 → FirstTold main backup l (toldFoundOf f)
-first-of (F.At M.Main start len) m z = inl (refl, m .1, m .2)
-first-of (F.At M.Backup start len) m z = inr (refl, m .1, m .2)
-first-of (F.At M.Neither start len) m z = absurd m
+first-of (F.At M.Main start len total) m z = inl (refl, m .1, m .2)
+first-of (F.At M.Backup start len total) m z = inr (refl, m .1, m .2)
+first-of (F.At M.Neither start len total) m z = absurd m
 first-of (F.Refused why p mark) m z = never why p z
+
+total-of : {main backup l : List ℕ} (f : Found) → Means main backup l f → (toldFoundOf f) .number ≡ 0 → TotalTold main backup l (toldFoundOf f)
+total-of (F.At M.Main start len total) m z = inl (refl, m .3)
+total-of (F.At M.Backup start len total) m z = inr (refl, m .3)
+total-of (F.At M.Neither start len total) m z = absurd m
+total-of (F.Refused why p mark) m z = never why p z
 
 part-of : (main backup l : List ℕ) {v : List ℕ} (f : Found) → Means main backup l f → v ≡ partOf main backup f
     → ((toldFoundOf f) .number ≡ 0 → PartTold main backup v (toldFoundOf f)) × (((toldFoundOf f) .number ≡ 0 → ⊥) → ((toldFoundOf f) .start ≡ 0) × (v ≡ []))
 unfolding partOf stretchIn
-part-of main backup l (F.At M.Main start len) m q = (λ z. inl (refl, (m .0, q ∙ simp (le-leb _ _ (m .0)))), λ h. absurd (h refl))
-part-of main backup l (F.At M.Backup start len) m q = (λ z. inr (refl, (m .0, q ∙ simp (le-leb _ _ (m .0)))), λ h. absurd (h refl))
-part-of main backup l (F.At M.Neither start len) m q = absurd m
+part-of main backup l (F.At M.Main start len total) m q = (λ z. inl (refl, (m .0, q ∙ simp (le-leb _ _ (m .0)))), λ h. absurd (h refl))
+part-of main backup l (F.At M.Backup start len total) m q = (λ z. inr (refl, (m .0, q ∙ simp (le-leb _ _ (m .0)))), λ h. absurd (h refl))
+part-of main backup l (F.At M.Neither start len total) m q = absurd m
 part-of main backup l (F.Refused why p mark) m q = (λ z. never why p z, λ h. (refl, q))
 
 absent-of : {main backup l : List ℕ} (f : Found) → Means main backup l f → toldFoundOf f ≡ absentTold → Says main (Without l) × Says backup (Without l)
-absent-of (F.At mark start len) m e = let z : _≡_ {A = ℕ} 0 20 = ap (λ (t : ToldFound). t .number) e in absurd-eq (cc)
+absent-of (F.At mark start len total) m e = let z : _≡_ {A = ℕ} 0 20 = ap (λ (t : ToldFound). t .number) e in absurd-eq (cc)
 absent-of (F.Refused why p M.Main) m e = let z : _≡_ {A = ℕ} 1 0 = ap (λ (t : ToldFound). t .from) e in absurd-eq (sym z)
 absent-of (F.Refused why p M.Backup) m e = let z : _≡_ {A = ℕ} 2 0 = ap (λ (t : ToldFound). t .from) e in absurd-eq (cc)
 absent-of (F.Refused why p M.Neither) m e = (m .2, m .3)
 
 of-absent : {main backup l : List ℕ} (f : Found) → Means main backup l f → Says main (Without l) → Says backup (Without l) → toldFoundOf f ≡ absentTold
-of-absent (F.At M.Main start len) m u v = same-said (m .1) u (λ xs f w. absurd (first-named f w))
-of-absent (F.At M.Backup start len) m u v = same-said (m .2) v (λ xs f w. absurd (first-named f w))
-of-absent (F.At M.Neither start len) m u v = absurd m
+of-absent (F.At M.Main start len total) m u v = same-said (m .1) u (λ xs f w. absurd (first-named f w))
+of-absent (F.At M.Backup start len total) m u v = same-said (m .2) v (λ xs f w. absurd (first-named f w))
+of-absent (F.At M.Neither start len total) m u v = absurd m
 of-absent (F.Refused why p M.Main) m u v = absurd-eq (cc (m, u .accepted))
 of-absent (F.Refused why p M.Backup) m u v = absurd-eq (cc (m .1, v .accepted))
 of-absent (F.Refused why p M.Neither) m u v =
-    ap₂ (λ (n k : ℕ). record { number = n; value = k; from = 0; start = 0 }) (ap numberOf (m .0)) (m .1)
+    ap₂ (λ (n k : ℕ). record { number = n; value = k; from = 0; start = 0; total = pos 0 }) (ap numberOf (m .0)) (m .1)
 
 module _ (main backup l : List ℕ) (b₁ : Bytes main) (b₂ : Bytes backup) {a : ToldFound} (x : a ≡ toldFoundOf (lookedUp main backup l)) where
   means : Means main backup l (lookedUp main backup l)
@@ -151,6 +159,9 @@ module _ (main backup l : List ℕ) (b₁ : Bytes main) (b₂ : Bytes backup) {a
 
   pub lookup-first : a .number ≡ 0 → FirstTold main backup l a
   lookup-first z = subst (FirstTold main backup l) (sym x) (first-of (lookedUp main backup l) means (sym (ap (λ (t : ToldFound). t .number) x) ∙ z))
+
+  pub lookup-total : a .number ≡ 0 → TotalTold main backup l a
+  lookup-total z = subst (TotalTold main backup l) (sym x) (total-of (lookedUp main backup l) means (sym (ap (λ (t : ToldFound). t .number) x) ∙ z))
 
   pub lookup-stretch : {v : List ℕ} → v ≡ partOf main backup (lookedUp main backup l)
       → (a .number ≡ 0 → PartTold main backup v a) × ((a .number ≡ 0 → ⊥) → (a .start ≡ 0) × (v ≡ []))

@@ -2,6 +2,7 @@
 use mathlib.Core.Bool.{cond}
 use mathlib.Core.List.{List}
 use Prim.Native.Nat.{ℕ}
+use lib.IntN.{pos}
 use lib.ListN.{length}
 use Rattle.refusals.specs.Refusals.{numberOf}
 use Rattle.refusals.specs.Outcomes.{told}
@@ -31,10 +32,10 @@ markNumber M.Neither = 0
 markNumber M.Main = 1
 markNumber M.Backup = 2
 
--- what was looked up, as its four numbers: where a value stands, or a refusal with the pack at fault and an empty stretch
+-- what was looked up, as its five numbers: where a value stands and its payload's total offset, or a refusal with the pack at fault, an empty stretch and 0
 abbrev pub toldFoundOf : Found → ToldFound
-toldFoundOf (F.At mark start len) = record { number = 0; value = len; from = markNumber mark; start = start }
-toldFoundOf (F.Refused why place mark) = record { number = numberOf why; value = place; from = markNumber mark; start = 0 }
+toldFoundOf (F.At mark start len total) = record { number = 0; value = len; from = markNumber mark; start = start; total = total }
+toldFoundOf (F.Refused why place mark) = record { number = numberOf why; value = place; from = markNumber mark; start = 0; total = pos 0 }
 
 -- a level as its three numbers: 1 where it is muted
 abbrev pub toldGainOf : Level → ToldGain

@@ -6,10 +6,10 @@ abbrev pub major : ℕ
 major = 0
 
 abbrev pub minor : ℕ
-minor = 6
+minor = 7
 
 abbrev pub patch : ℕ
-patch = 1
+patch = 0
 
 abbrev pub version : ℕ
 version = major * 10000 + minor * 100 + patch

@@ -19,14 +19,15 @@ pub struct Told {
     pub value: u64,
 }
 
-// What was looked up, for C: number 0 and `value` bytes from `start` on of main, `from` 1, or of backup, `from` 2; or a refusal's number, its place in
-// `value`, the pack at fault in `from`, 0 for neither, and `start` 0.
+// What was looked up, for C: number 0 and `value` bytes from `start` on of main, `from` 1, or of backup, `from` 2, and the payload's total offset; or a
+// refusal's number, its place in `value`, the pack at fault in `from`, 0 for neither, and 0 in `start` and `total`.
 #[repr(C)]
 pub struct ToldFound {
     pub number: u64,
     pub value: u64,
     pub from: u64,
     pub start: u64,
+    pub total: i64,
 }
 
 // A gain for C: number 0 and either muted 1 or so many half decibels, or a refusal's number and two zeros.
@@ -40,9 +41,9 @@ pub struct ToldGain {
 // The version, as include/ballastwren.h has it.
 const MAJOR: u32 = 0;
 
-const MINOR: u32 = 6;
+const MINOR: u32 = 7;
 
-const PATCH: u32 = 1;
+const PATCH: u32 = 0;
 
 fn wide(n: u32) -> u64
     ensures { λ r. ⌜ r ≡ n ⌝ }
@@ -82,11 +83,17 @@ fn told_found(found: Found) -> ToldFound
     ensures { λ r. ⌜ r ≡ toldFoundOf found ⌝ }
 {
     match found {
-        Found::At { from, start, len } => ToldFound {
+        Found::At {
+            from,
+            start,
+            len,
+            total,
+        } => ToldFound {
             number: 0,
             value: len as u64,
             from: mark_number(from),
             start: start as u64,
+            total,
         },
         Found::Refused { why, place, from } => {
             let told = told_answer(Answer::Refused { why, place });
@@ -95,6 +102,7 @@ fn told_found(found: Found) -> ToldFound
                 value: told.value,
                 from: mark_number(from),
                 start: 0,
+                total: 0,
             }
         }
     }
@@ -138,8 +146,8 @@ pub extern "C" fn bw_sheet_check(sheet: &[u8]) -> Told
     told_answer(a)
 }
 
-// Looks a label up in two packs. Answers where the value of its first payload stands, in main or, if main has none, in backup; or the refusal: those of
-// bw_check for main, those for backup, then ABSENT, also for a label that is not of 16 bytes.
+// Looks a label up in two packs. Answers where the value of its first payload stands, in main or, if main has none, in backup, and its total offset; or the
+// refusal: those of bw_check for main, those for backup, then ABSENT, also for a label that is not of 16 bytes.
 #[no_mangle]
 pub extern "C" fn bw_lookup(main: &[u8], backup: &[u8], label: &[u8]) -> ToldFound
     ensures { λ r. ⌜ r ≡ toldFoundOf (lookedUp (now (main .entry)) (now (backup .entry)) (now (label .entry))) ⌝ }

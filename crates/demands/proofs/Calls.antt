@@ -96,6 +96,7 @@ check-then-look-up main backup l m b p q x =
       backupChecked = q;
       call = x;
       first = promises.lookup-first main backup l x m b;
+      total = promises.lookup-total main backup l x m b;
       mainRefused = order .0;
       backupRefused = order .1;
       otherwise = order .2;

@@ -24,7 +24,7 @@ use Rattle.pmd.specs.Gain.{levelOf}
 use Rattle.ballastwren.specs.declared.Told.{Told}
 use Rattle.ballastwren.specs.declared.ToldFound.{ToldFound}
 use Rattle.ballastwren.specs.declared.ToldGain.{ToldGain}
-use Rattle.ballastwren.specs.Looked.{FirstTold, absentTold}
+use Rattle.ballastwren.specs.Looked.{FirstTold, TotalTold, absentTold}
 use Rattle.ballastwren.specs.Told.{toldOf, toldFoundOf, toldGainOf, BwRead, BwScrub, BwPmdRead, BwPmdWrite}
 
 -- THE DEMANDS
@@ -123,15 +123,16 @@ pub record CheckSheetAndScrub (sheet s before : List ℕ) (a b : Told) (out : Li
   pub all : sheet ≡ allSheet → a ≡ record { number = 0; value = 0 }
 
 -- check_and_look_up: two packs are checked, and a label is looked up in them. A refusal of main's check is the look-up's, with the mark 1; then one of
--- backup's, with the mark 2. Else a value is found, that of the label's first payload in main or, where main has none, in backup; or ABSENT is told, exactly
--- where no payload of either has the label, and always of a label that is not of 16 bytes
+-- backup's, with the mark 2. Else a value is found, that of the label's first payload in main or, where main has none, in backup, with its total offset; or
+-- ABSENT is told, exactly where no payload of either has the label, and always of a label that is not of 16 bytes
 pub record CheckAndLookUp (main backup l : List ℕ) (c d : Told) (a : ToldFound) : Type 0 where
   pub mainChecked : c ≡ toldOf (checked main)
   pub backupChecked : d ≡ toldOf (checked backup)
   pub call : a ≡ toldFoundOf (lookedUp main backup l)
   pub first : a .number ≡ 0 → FirstTold main backup l a
-  pub mainRefused : (c .number ≡ 0 → ⊥) → a ≡ record { number = c .number; value = c .value; from = 1; start = 0 }
-  pub backupRefused : c .number ≡ 0 → (d .number ≡ 0 → ⊥) → a ≡ record { number = d .number; value = d .value; from = 2; start = 0 }
+  pub total : a .number ≡ 0 → TotalTold main backup l a
+  pub mainRefused : (c .number ≡ 0 → ⊥) → a ≡ record { number = c .number; value = c .value; from = 1; start = 0; total = pos 0 }
+  pub backupRefused : c .number ≡ 0 → (d .number ≡ 0 → ⊥) → a ≡ record { number = d .number; value = d .value; from = 2; start = 0; total = pos 0 }
   pub otherwise : c .number ≡ 0 → d .number ≡ 0 → (a .number ≡ 0) ⊎ (a ≡ absentTold)
   pub absent : (a ≡ absentTold → Says main (Without l) × Says backup (Without l)) × (Says main (Without l) → Says backup (Without l) → a ≡ absentTold)
   pub strange : (length l ≡ 16 → ⊥) → c .number ≡ 0 → d .number ≡ 0 → a ≡ absentTold

@@ -12,7 +12,8 @@ use Rattle.runs.specs.Digits.{digits, number}
 use Rattle.runs.proofs.Cases.{split}
 use Rattle.runs.proofs.Digits.{length-digits, number-of}
 use Rattle.runs.proofs.Writing.{Writing, writing-as, writing-byte}
-use Rattle.numbers.specs.Big.{signed}
+use Rattle.numbers.specs.Big.{signed32}
+use Rattle.numbers.proofs.Signs.{signed32-low, signed32-high}
 use Rattle.numbers.proofs.Fewest.{fewest, fewest-most, fewest-holds, fewest-least}
 use Rattle.figures.specs.Figures.{sizeFrom, decimal, integer, hexDigit, hex}
 
@@ -80,16 +81,16 @@ pub decimal-says : (n : ℕ) → n < 2 ^ 64 → number 10 (digits 10 (sizeFrom 1
 decimal-says n h =
     number-of 10 (sizeFrom 1 19 n) n (omega arith) (rw size-fewest (fewest-holds 10 1 19 n (let z : n < 10 ^ 20 = omega arith in z)))
 
--- a number of 16 bits, below and from the middle on
-pub signed-low : (n : ℕ) → n < 32768 → integer (signed n) ≡ decimal n
-unfolding signed integer
-signed-low n h = simp (lt-ltb n 32768 h)
+-- a number of 32 bits, below and from the middle on
+pub signed-low : (n : ℕ) → n < 2 ^ 31 → integer (signed32 n) ≡ decimal n
+unfolding integer
+signed-low n h = ap integer (signed32-low n h)
 
-pub signed-high : (n : ℕ) → 32768 ≤ n → n < 65536 → integer (signed n) ≡ 45 ∷ decimal (65536 - n)
-unfolding signed integer
+pub signed-high : (n : ℕ) → 2 ^ 31 ≤ n → n < 2 ^ 32 → integer (signed32 n) ≡ 45 ∷ decimal (2 ^ 32 - n)
+unfolding integer
 signed-high n h l =
-    let e : suc (65536 - suc n) ≡ 65536 - n = omega arith in
-    simp (le-ltb n 32768 h, lt-ltb n 65536 l) (ap (λ (m : ℕ). 45 ∷ decimal m) e)
+    let e : suc (2 ^ 32 - suc n) ≡ 2 ^ 32 - n = omega arith in
+    ap integer (signed32-high n h l) ∙ ap (λ (m : ℕ). 45 ∷ decimal m) e
 
 -- the digits of the bytes that are left, and none left; r is what follows them
 pub hex-first : (s : List ℕ) (i : ℕ) (r : List ℕ) → i < length s

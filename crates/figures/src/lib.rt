@@ -2,7 +2,7 @@
 ghost use mathlib.Core.Path.{_≡_};
 ghost use Prim.Native.Nat.{_+_, _<_, _^_};
 ghost use lib.ListN.{length};
-ghost use Rattle.numbers.specs.Big.{signed};
+ghost use Rattle.numbers.specs.Big.{signed, signed32};
 ghost use Rattle.figures.specs.Figures.{sizeFrom, decimal, integer, hexDigit, hex};
 ghost use Rattle.figures.specs.Fields.{FieldPut};
 
@@ -59,7 +59,7 @@ fn hex_digit(d: u8) -> u8
     if d < 10 { 48 + d } else { 55 + d }
 }
 
-// Each of the next four writes a field and the byte after it, a space or a newline, and answers the place after that.
+// Each of the next five writes a field and the byte after it, a space or a newline, and answers the place after that.
 // The caller has seen that they fit.
 
 pub fn put_word(out: &mut [u8], at: usize, word: &[u8], end: u8) -> usize
@@ -86,16 +86,24 @@ pub fn put_decimal(out: &mut [u8], at: usize, n: u64, end: u8) -> usize
     next + 1
 }
 
-// The 16 bits of `n` are a number in two's complement.
+// The 32 bits of `n` are a number in two's complement.
+pub fn put_signed32(out: &mut [u8], at: usize, n: u32, end: u8) -> usize
+    requires { ⌜ at + length (integer (signed32 n)) < length (now out) ⌝ }
+    ensures { λ r. ⌜ FieldPut (now (out .entry)) at (integer (signed32 n)) end r (now (out .exit)) ⌝ }
+{
+    if n < 0x8000_0000 {
+        return put_decimal(out, at, n as u64, end);
+    }
+    out[at] = b'-';
+    put_decimal(out, at + 1, 0x1_0000_0000 - n as u64, end)
+}
+
+// The 16 bits of `n` are one.
 pub fn put_signed(out: &mut [u8], at: usize, n: u16, end: u8) -> usize
     requires { ⌜ at + length (integer (signed n)) < length (now out) ⌝ }
     ensures { λ r. ⌜ FieldPut (now (out .entry)) at (integer (signed n)) end r (now (out .exit)) ⌝ }
 {
-    if n < 32768 {
-        return put_decimal(out, at, n as u64, end);
-    }
-    out[at] = b'-';
-    put_decimal(out, at + 1, 65536 - n as u64, end)
+    put_signed32(out, at, numbers::extended(n), end)
 }
 
 pub fn put_hex(out: &mut [u8], at: usize, bytes: &[u8], end: u8) -> usize

@@ -2,6 +2,7 @@
 use mathlib.Core.Path.{_≡_, refl, sym, ap, _∙_}
 use mathlib.Core.List.{List, [], _∷_}
 use Prim.Native.Nat.{ℕ}
+use lib.IntN.{ℤ}
 use Rattle.runs.proofs.Cases.{absurd-eq}
 use Rattle.refusals.specs.declared.Refusal.{Refusal}
 use Rattle.refusals.specs.declared.Refusal.the-variants as R
@@ -9,6 +10,7 @@ use Rattle.refusals.specs.declared.Answer.{Answer}
 use Rattle.refusals.specs.declared.Answer.the-variants as A
 use Rattle.refusals.specs.Outcomes.{Outcome, fine, refused}
 use Rattle.refusals.proofs.Outcomes.{done-of, refused-of}
+use Rattle.numbers.specs.Big.{signed32}
 use Rattle.pack.specs.Items.{countOf}
 use Rattle.pack.specs.Reading.{Read, reading, checked}
 use Rattle.pack.specs.declared.Payload.{Payload}
@@ -40,7 +42,7 @@ sought-refused l (refused why p) e = cc
 abbrev Reads : List ℕ → Outcome Read → Sought → Type 0
 Reads l o h = (r : Read) × (o ≡ fine r) × (firstAt (carried l r) ≡ h)
 
-sought-at : (l : List ℕ) (o : Outcome Read) {a b : ℕ} → soughtIn l o ≡ S.At a b → Reads l o (S.At a b)
+sought-at : (l : List ℕ) (o : Outcome Read) {a b n : ℕ} → soughtIn l o ≡ S.At a b n → Reads l o (S.At a b n)
 unfolding soughtIn
 sought-at l (fine r) e = (r, refl, e)
 sought-at l (refused why p) e = absurd-eq (cc)
@@ -50,7 +52,7 @@ unfolding soughtIn
 sought-absent l (fine r) e = (r, refl, e)
 sought-absent l (refused why p) e = absurd-eq (cc)
 
-first-at : (m : Mark) (xs : List Payload) (next : Found) {a b : ℕ} → firstAt xs ≡ S.At a b → firstOf m xs next ≡ F.At m a b
+first-at : (m : Mark) (xs : List Payload) (next : Found) {a b n : ℕ} → firstAt xs ≡ S.At a b n → firstOf m xs next ≡ F.At m a b (signed32 n)
 first-at m [] next e = absurd-eq (cc)
 first-at m (x ∷ xs) next e = cc
 
@@ -85,18 +87,19 @@ module _ (main backup l : List ℕ) where
     main-refused e = sym (looked-first (sought-refused l (reading main) (sym f ∙ e)))
 
     -- main has it
-    module _ {a b : ℕ} (e : first ≡ S.At a b) {other : Answer} (k : other ≡ checked backup) where
-      main-at : Reads l (reading main) (S.At a b)
+    module _ {a b n : ℕ} (e : first ≡ S.At a b n) {other : Answer} (k : other ≡ checked backup) where
+      main-at : Reads l (reading main) (S.At a b n)
       main-at = sought-at l (reading main) (sym f ∙ e)
 
       pub other-refused : {why : Refusal} {p : ℕ} → other ≡ A.Refused why p → F.Refused why p M.Backup ≡ lookedUp main backup l
       unfolding checked
       other-refused d = sym (looked-refused (main-at .1) (refused-of (λ (r : Read). countOf (r .body .parts)) (reading backup) (sym d ∙ k)))
 
-      pub in-main : {n : ℕ} → other ≡ A.Done n → F.At M.Main a b ≡ lookedUp main backup l
+      pub in-main : {k : ℕ} {total : ℤ} → other ≡ A.Done k → total ≡ signed32 n → F.At M.Main a b total ≡ lookedUp main backup l
       unfolding checked
-      in-main d =
-          sym (looked-both (main-at .1) (done-of (λ (r : Read). countOf (r .body .parts)) (reading backup) (sym d ∙ k) .1)
+      in-main d sum =
+          ap (F.At M.Main a b) sum
+          ∙ sym (looked-both (main-at .1) (done-of (λ (r : Read). countOf (r .body .parts)) (reading backup) (sym d ∙ k) .1)
           ∙ first-at M.Main (carried l (main-at .0)) _ (main-at .2))
 
     -- main does not have it
@@ -110,8 +113,8 @@ module _ (main backup l : List ℕ) where
       pub backup-refused : {why : Refusal} {p : ℕ} → second ≡ S.Refused why p → F.Refused why p M.Backup ≡ lookedUp main backup l
       backup-refused d = sym (looked-refused (main-absent .1) (sought-refused l (reading backup) (sym g ∙ d)))
 
-      pub in-backup : {a b : ℕ} → second ≡ S.At a b → F.At M.Backup a b ≡ lookedUp main backup l
-      in-backup d = let r = sought-at l (reading backup) (sym g ∙ d) in sym (backup-next r ∙ first-at M.Backup (carried l (r .0)) absent (r .2))
+      pub in-backup : {a b n : ℕ} {total : ℤ} → second ≡ S.At a b n → total ≡ signed32 n → F.At M.Backup a b total ≡ lookedUp main backup l
+      in-backup {a} {b} d sum = let r = sought-at l (reading backup) (sym g ∙ d) in ap (F.At M.Backup a b) sum ∙ sym (backup-next r ∙ first-at M.Backup (carried l (r .0)) absent (r .2))
 
       pub in-neither : second ≡ S.Absent → F.Refused R.Absent 0 M.Neither ≡ lookedUp main backup l
       in-neither d = let r = sought-absent l (reading backup) (sym g ∙ d) in sym (backup-next r ∙ first-none M.Backup (carried l (r .0)) absent (r .2))

@@ -1,10 +1,11 @@
 -- What each answer of a look-up means, over what the two packs say.
-use mathlib.Core.Path.{_≡_, refl, sym, ap, subst, _∙_}
-use mathlib.Core.List.{List, [], _∷_, _++_, map, map-append}
+use mathlib.Core.Path.{_≡_, refl, sym, ap, ap₂, subst, _∙_}
+use mathlib.Core.List.{List, [], _∷_, _++_, map, map-append, flatten}
 use mathlib.Core.Bool.{Bool, true, false}
 use Prim.Native.Nat.{ℕ, _+_, _≤_}
 use native.Mathlib.Omega.{arith}
 use lib.Dec.{eqb}
+use lib.IntN.{ℤ, _+ℤ_}
 use lib.ListN.{length, getD, length-take, length-drop}
 use borrow.Author.Tests.{eqb-false, ne-eqb}
 use Rattle.runs.specs.Digits.{Bytes}
@@ -14,17 +15,20 @@ use Rattle.runs.proofs.Same.{same-true, same-false}
 use Rattle.runs.proofs.Those.{each-map, each-append, each-right, each-on}
 use Rattle.refusals.specs.declared.Refusal.the-variants as R
 use Rattle.refusals.specs.Outcomes.{Outcome, fine, refused}
-use Rattle.pack.specs.Said.{SaidName, label, number, SaidPayload}
+use Rattle.numbers.specs.Big.{signed, signed32}
+use Rattle.pack.specs.Said.{SaidName, label, number, SaidPayload, SaidItem, single, sync}
 use Rattle.pack.specs.Config.{Mapping, labelsOf}
 use Rattle.pack.specs.Items.{Part, one, many}
 use Rattle.pack.specs.Reading.{Read, reading}
 use Rattle.pack.specs.Meaning.{stretch, meantName, meantPayload, meantPart, meant}
+use Rattle.pack.specs.Totals.{Totalled, itemTotals, carries, partCarries}
 use Rattle.pack.specs.declared.Name.{Name}
 use Rattle.pack.specs.declared.Name.the-variants.{Label, Number}
 use Rattle.pack.specs.declared.Payload.{Payload}
+use Rattle.pack_layout.proofs.Totals.{totals-exact}
 use Rattle.pack_layout.proofs.Bounds.{NameFits, PayloadLies, PartLies, LabelLies, label-at, reading-bounds}
 use Rattle.lookup.specs.Lookup.{payloadsOf, isLabel, carried, firstOf, accepted, lookedUp}
-use Rattle.lookup.specs.Named.{payloadsIn, Without, First, Says}
+use Rattle.lookup.specs.Named.{payloadsIn, Without, First, FirstTotal, Says, SaysTotals}
 use Rattle.lookup.specs.declared.Mark.the-variants as M
 use Rattle.lookup.specs.declared.Found.{Found}
 use Rattle.lookup.specs.declared.Found.the-variants as F
@@ -83,6 +87,9 @@ never-label s l ms (Number t) h f d q = absurd-eq (cc)
 
 -- ONE PACK
 
+abbrev payload : Totalled → SaidPayload
+payload x = x .payload
+
 payloads-meant : (s : List ℕ) (labels : List (List ℕ)) (ps : List Part)
     → payloadsIn (map (meantPart s labels) ps) ≡ map (meantPayload s labels) (payloadsOf ps)
 unfolding payloadsIn payloadsOf
@@ -91,6 +98,33 @@ payloads-meant s labels (one x ∷ ps) = ap (λ (l : List SaidPayload). meantPay
 payloads-meant s labels (many h xs ∷ ps) =
     ap (λ (l : List SaidPayload). map (meantPayload s labels) xs ++ l) (payloads-meant s labels ps)
     ∙ sym (map-append (meantPayload s labels) xs (payloadsOf ps))
+
+payloads-carry : (s : List ℕ) (labels : List (List ℕ)) (ps : List Part) → flatten (map (partCarries s labels) ps) ≡ map (carries s labels) (payloadsOf ps)
+unfolding flatten payloadsOf
+payloads-carry s labels [] = refl
+payloads-carry s labels (one x ∷ ps) = ap (λ (l : List Totalled). carries s labels x ∷ l) (payloads-carry s labels ps)
+payloads-carry s labels (many h xs ∷ ps) =
+    ap (λ (l : List Totalled). map (carries s labels) xs ++ l) (payloads-carry s labels ps) ∙ sym (map-append (carries s labels) xs (payloadsOf ps))
+
+-- without their total offsets
+alone : (n : ℤ) (xs : List SaidPayload) → map payload (map (λ (x : SaidPayload). record { payload = x; total = n }) xs) ≡ xs
+alone n [] = refl
+alone n (x ∷ xs) = ap (λ (l : List SaidPayload). x ∷ l) (alone n xs)
+
+alone-in : (o : ℕ) (xs : List SaidItem) → map payload (flatten (map (itemTotals o) xs)) ≡ payloadsIn xs
+unfolding flatten payloadsIn
+alone-in o [] = refl
+alone-in o (single x ∷ r) = ap (λ (l : List SaidPayload). x ∷ l) (alone-in o r)
+alone-in o (sync p d xs ∷ r) =
+    map-append payload (itemTotals o (sync p d xs)) (flatten (map (itemTotals o) r)) ∙ ap₂ (λ (us vs : List SaidPayload). us ++ vs) (alone (signed o +ℤ signed p) xs) (alone-in o r)
+
+first-alone : {l v : List ℕ} {n : ℤ} {xs : List Totalled} → FirstTotal l v n xs → First l v (map payload xs)
+first-alone {l} {v} {n} f = record {
+  before = map payload (f .before);
+  after = map payload (f .after);
+  stands = ap (map payload) (f .stands) ∙ map-append payload (f .before) (record { payload = record { name = label l; value = v }; total = n } ∷ f .after);
+  without = each-on (λ (x : SaidPayload). x .name ≡ label l → ⊥) payload (f .before) (f .without);
+}
 
 payloads-lie : (s : List ℕ) (n : ℕ) (ps : List Part) → Each (PartLies s n) ps → Each (PayloadLies s n) (payloadsOf ps)
 unfolding payloadsOf
@@ -136,22 +170,36 @@ module _ (s l : List ℕ) {r : Read} (e : reading s ≡ fine r) where
           let h = headed in
           each-right (PayloadLies s (length (r .mappings))) (h .before) (x ∷ h .after) (subst (Each (PayloadLies s (length (r .mappings)))) (h .stands) lie) .0 .ends
 
-      pub carried-first : Says s (First l (stretch s (x .«value_start») (x .«value_len»)))
-      carried-first =
+      -- with its total offset, and without
+      pub carried-total : SaysTotals s (FirstTotal l (stretch s (x .«value_start») (x .«value_len»)) (signed32 (x .total)))
+      carried-total =
           let h = headed in
           let v = stretch s (x .«value_start») (x .«value_len») in
           let named = is-label l (meantName (labelsOf (r .mappings)) (x .name)) (h .pass) in
+          let carrying : Payload → Totalled = carries s (labelsOf (r .mappings)) in
           record {
             read = r;
             accepted = e;
             holds = record {
-              before = map saying (h .before);
-              after = map saying (h .after);
+              before = map carrying (h .before);
+              after = map carrying (h .after);
               stands =
-                  said ∙ ap (map saying) (h .stands) ∙ map-append saying (h .before) (x ∷ h .after)
-                  ∙ ap (λ (n : SaidName). map saying (h .before) ++ (record { name = n; value = v } ∷ map saying (h .after))) named;
-              without = without (h .before) (h .fail);
+                  sym (totals-exact s bytes r e) ∙ payloads-carry s (labelsOf (r .mappings)) (r .body .parts)
+                  ∙ ap (map carrying) (h .stands) ∙ map-append carrying (h .before) (x ∷ h .after)
+                  ∙ ap (λ (n : SaidName). map carrying (h .before) ++ (record { payload = record { name = n; value = v }; total = signed32 (x .total) } ∷ map carrying (h .after))) named;
+              without =
+                  each-on (λ (y : Totalled). y .payload .name ≡ label l → ⊥) carrying (h .before)
+                  (each-map (λ y q. not-label l (meantName (labelsOf (r .mappings)) (y .name)) q) (h .before) (h .fail));
             };
+          }
+
+      pub carried-first : Says s (First l (stretch s (x .«value_start») (x .«value_len»)))
+      carried-first =
+          let w = carried-total in
+          record {
+            read = w .read;
+            accepted = w .accepted;
+            holds = subst (First l (stretch s (x .«value_start») (x .«value_len»))) (alone-in ((meant s (w .read)) .offset) ((meant s (w .read)) .items)) (first-alone (w .holds));
           }
 
     -- none is
@@ -191,9 +239,11 @@ same-said {s = s} {Rule = Rule} x y both =
 -- a value, which lies in its pack: main's first, or backup's first where main has none; main's refusal; backup's, where main is accepted; or that
 -- neither has the label
 abbrev pub Means : List ℕ → List ℕ → List ℕ → Found → Type 0
-Means main backup l (F.At M.Main start len) = (start + len ≤ length main) × Says main (First l (stretch main start len)) × Says backup (λ xs. Unit)
-Means main backup l (F.At M.Backup start len) = (start + len ≤ length backup) × Says main (Without l) × Says backup (First l (stretch backup start len))
-Means main backup l (F.At M.Neither start len) = ⊥
+Means main backup l (F.At M.Main start len total) =
+    (start + len ≤ length main) × Says main (First l (stretch main start len)) × Says backup (λ xs. Unit) × SaysTotals main (FirstTotal l (stretch main start len) total)
+Means main backup l (F.At M.Backup start len total) =
+    (start + len ≤ length backup) × Says main (Without l) × Says backup (First l (stretch backup start len)) × SaysTotals backup (FirstTotal l (stretch backup start len) total)
+Means main backup l (F.At M.Neither start len total) = ⊥
 Means main backup l (F.Refused why p M.Main) = reading main ≡ refused why p
 Means main backup l (F.Refused why p M.Backup) = Says main (λ xs. Unit) × (reading backup ≡ refused why p)
 Means main backup l (F.Refused why p M.Neither) = (why ≡ R.Absent) × (p ≡ 0) × Says main (Without l) × Says backup (Without l)
@@ -204,8 +254,8 @@ module _ (main backup l : List ℕ) (b₁ : Bytes main) (b₂ : Bytes backup) wh
 
   means-both : {m b : Read} → reading main ≡ fine m → reading backup ≡ fine b → (xs ys : List Payload) → carried l m ≡ xs → carried l b ≡ ys
       → Means main backup l (firstOf M.Main xs (firstOf M.Backup ys absent))
-  means-both e g (x ∷ xs) ys c d = (carried-lies main l e b₁ c, carried-first main l e b₁ c, accepted-says backup l g)
-  means-both e g [] (y ∷ ys) c d = (carried-lies backup l g b₂ d, carried-none main l e b₁ c, carried-first backup l g b₂ d)
+  means-both e g (x ∷ xs) ys c d = (carried-lies main l e b₁ c, carried-first main l e b₁ c, accepted-says backup l g, carried-total main l e b₁ c)
+  means-both e g [] (y ∷ ys) c d = (carried-lies backup l g b₂ d, carried-none main l e b₁ c, carried-first backup l g b₂ d, carried-total backup l g b₂ d)
   means-both e g [] [] c d = (refl, refl, carried-none main l e b₁ c, carried-none backup l g b₂ d)
 
   means-of : (o p : Outcome Read) → reading main ≡ o → reading backup ≡ p

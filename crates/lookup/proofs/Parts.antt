@@ -1,6 +1,7 @@
 -- The part of a pack that an answer tells, by the answer and its mark.
 use mathlib.Core.Path.{_≡_, sym, ap, _∙_}
 use mathlib.Core.List.{List, []}
+use lib.IntN.{ℤ}
 use Prim.Native.Nat.{ℕ, _+_}
 use native.Mathlib.Omega.{arith}
 use lib.Dec.{leb}
@@ -27,7 +28,7 @@ module _ (main backup : List ℕ) {f : Found} where
   unfolding partOf
   part-refused e = sym (ap (partOf main backup) e)
 
-  module _ {m : Mark} {start len : ℕ} (e : f ≡ F.At m start len) where
+  module _ {m : Mark} {start len : ℕ} {total : ℤ} (e : f ≡ F.At m start len total) where
     part-at : {n : Mark} → m ≡ n → stretchIn (packOf n main backup) start len ≡ partOf main backup f
     unfolding partOf
     part-at q = sym (ap (partOf main backup) e ∙ ap (λ (k : Mark). stretchIn (packOf k main backup) start len) q)

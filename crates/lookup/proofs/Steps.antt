@@ -10,7 +10,7 @@ use Rattle.runs.proofs.Cases.{split}
 use Rattle.runs.proofs.Those.{those-append}
 use Rattle.refusals.specs.declared.Refusal.{Refusal}
 use Rattle.refusals.specs.Outcomes.{Outcome, fine, refused}
-use Rattle.pack.specs.Payloads.{payload}
+use Rattle.pack.specs.Payloads.{Ground, payload}
 use Rattle.pack.specs.Items.{Part, one, many, Body}
 use Rattle.pack.specs.declared.Name.{Name}
 use Rattle.pack.specs.declared.Payload.{Payload}
@@ -24,7 +24,7 @@ use Rattle.lookup.specs.declared.Sought.the-variants as S
 -- ONE AFTER THE OTHER
 
 or-none : (x : Sought) → orElse x S.Absent ≡ x
-or-none (S.At start len) = refl
+or-none (S.At start len total) = refl
 or-none S.Absent = refl
 or-none (S.Refused why place) = refl
 
@@ -38,7 +38,7 @@ pub spot-none : (x : Spot) → x .start ≡ 0 → soughtOf x ≡ S.Absent
 unfolding soughtOf
 spot-none x e = simp (eq-eqb _ _ e)
 
-pub spot-some : (x : Spot) → (x .start ≡ 0 → ⊥) → soughtOf x ≡ S.At (x .start) (x .len)
+pub spot-some : (x : Spot) → (x .start ≡ 0 → ⊥) → soughtOf x ≡ S.At (x .start) (x .len) (x .total)
 unfolding soughtOf
 spot-some x e = simp (ne-eqb _ _ e)
 
@@ -50,13 +50,13 @@ pub spot-stays : (x : Spot) (y : Sought) → (x .start ≡ 0 → ⊥) → sought
 spot-stays x y e = spot-some x e ∙ sym (ap (λ (z : Sought). orElse z y) (spot-some x e))
 
 -- a tag that is not sought, and one that is
-pub other-tag : (x : Sought) (wanted t start len : ℕ) → eqb t wanted ≡ false → x ≡ orElse x (ofTag wanted t start len)
+pub other-tag : (x : Sought) (wanted t start len total : ℕ) → eqb t wanted ≡ false → x ≡ orElse x (ofTag wanted t start len total)
 unfolding ofTag
-other-tag x wanted t start len e = sym (ap (orElse x) (rw e refl) ∙ or-none x)
+other-tag x wanted t start len total e = sym (ap (orElse x) (rw e refl) ∙ or-none x)
 
-pub own-tag : (x : Sought) (wanted t start len : ℕ) → eqb t wanted ≡ true → orElse x (S.At start len) ≡ orElse x (ofTag wanted t start len)
+pub own-tag : (x : Sought) (wanted t start len total : ℕ) → eqb t wanted ≡ true → orElse x (S.At start len total) ≡ orElse x (ofTag wanted t start len total)
 unfolding ofTag
-own-tag x wanted t start len e = ap (orElse x) (rw e refl)
+own-tag x wanted t start len total e = ap (orElse x) (rw e refl)
 
 module _ (test : Name → Bool) where
   in-append : (xs ys : List Payload) → firstIn test (xs ++ ys) ≡ orElse (firstIn test xs) (firstIn test ys)
@@ -65,13 +65,13 @@ module _ (test : Name → Bool) where
       ap firstAt (those-append passes xs ys) ∙ first-append (those passes xs) (those passes ys)
 
   -- one payload more
-  pub payload-more : (tags : List ℕ) (wanted : ℕ) → Tells tags test wanted → (xs : List Payload) {first next : Sought} (start t v l : ℕ) → (t ≡ 1 → ⊥)
-      → first ≡ firstIn test xs → next ≡ orElse first (ofTag wanted t v l) → next ≡ firstIn test (xs ++ (payload tags start t v l ∷ []))
+  pub payload-more : (ground : Ground) (wanted : ℕ) → Tells (ground .tags) test wanted → (xs : List Payload) {first next : Sought} (start t v l : ℕ) → (t ≡ 1 → ⊥)
+      → first ≡ firstIn test xs → next ≡ orElse first (ofTag wanted t v l (ground .total)) → next ≡ firstIn test (xs ++ (payload ground start t v l ∷ []))
   unfolding those ofTag
-  payload-more tags wanted tells xs start t v l other found is =
-      let one : ofTag wanted t v l ≡ firstIn test (payload tags start t v l ∷ []) =
+  payload-more ground wanted tells xs start t v l other found is =
+      let one : ofTag wanted t v l (ground .total) ≡ firstIn test (payload ground start t v l ∷ []) =
       split (eqb t wanted) (λ e. simp (tells t other ∙ e, e)) (λ e. simp (tells t other ∙ e, e)) in
-      is ∙ ap₂ orElse found one ∙ sym (in-append xs (payload tags start t v l ∷ []))
+      is ∙ ap₂ orElse found one ∙ sym (in-append xs (payload ground start t v l ∷ []))
 
   -- one part more
   more : (ps : List Part) (x : Part) → payloadsOf (ps ++ (x ∷ [])) ≡ payloadsOf ps ++ payloadsOf (x ∷ [])
@@ -80,12 +80,12 @@ module _ (test : Name → Bool) where
   more (one y ∷ ps) x = ap (λ (xs : List Payload). y ∷ xs) (more ps x)
   more (many h ys ∷ ps) x = ap (λ (xs : List Payload). ys ++ xs) (more ps x) ∙ sym (append-assoc ys (payloadsOf ps) (payloadsOf (x ∷ [])))
 
-  pub plain-more : (tags : List ℕ) (wanted : ℕ) → Tells tags test wanted → (ps : List Part) {first next : Sought} (start t v l : ℕ) → (t ≡ 1 → ⊥)
-      → first ≡ firstIn test (payloadsOf ps) → next ≡ orElse first (ofTag wanted t v l)
-      → next ≡ firstIn test (payloadsOf (ps ++ (one (payload tags start t v l) ∷ [])))
+  pub plain-more : (ground : Ground) (wanted : ℕ) → Tells (ground .tags) test wanted → (ps : List Part) {first next : Sought} (start t v l : ℕ) → (t ≡ 1 → ⊥)
+      → first ≡ firstIn test (payloadsOf ps) → next ≡ orElse first (ofTag wanted t v l (ground .total))
+      → next ≡ firstIn test (payloadsOf (ps ++ (one (payload ground start t v l) ∷ [])))
   unfolding payloadsOf
-  plain-more tags wanted tells ps start t v l other found is =
-      payload-more tags wanted tells (payloadsOf ps) start t v l other found is ∙ sym (ap (firstIn test) (more ps (one (payload tags start t v l))))
+  plain-more ground wanted tells ps start t v l other found is =
+      payload-more ground wanted tells (payloadsOf ps) start t v l other found is ∙ sym (ap (firstIn test) (more ps (one (payload ground start t v l))))
 
   pub sync-more : (ps : List Part) (h : Head) (xs : List Payload) {first inside next : Sought} → first ≡ firstIn test (payloadsOf ps) → inside ≡ firstIn test xs
       → next ≡ orElse first inside → next ≡ firstIn test (payloadsOf (ps ++ (many h xs ∷ [])))

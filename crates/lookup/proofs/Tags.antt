@@ -17,10 +17,11 @@ use Rattle.runs.proofs.Same.{same-true, among-neither, listed-neither}
 use Rattle.runs.proofs.Those.{each-map, each-on}
 use Rattle.refusals.specs.Outcomes.{Outcome, fine, refused, andThen}
 use Rattle.refusals.proofs.Outcomes.{then-fine}
+use Rattle.numbers.specs.Big.{extended}
 use Rattle.pack.specs.Config.{Mapping, tagsOf, labelsOf, placesOf}
-use Rattle.pack.specs.Payloads.{nameOf}
+use Rattle.pack.specs.Payloads.{nameOf, groundOf}
 use Rattle.pack.specs.Items.{Body, itemsFrom}
-use Rattle.pack.specs.Reading.{Read, Opening, readFrom, reading}
+use Rattle.pack.specs.Reading.{Read, Opening, packGround, readFrom, reading}
 use Rattle.pack.specs.Meaning.{meantName}
 use Rattle.pack.specs.declared.Name.{Name}
 use Rattle.pack.specs.declared.Payload.{Payload}
@@ -133,21 +134,21 @@ module _ (s l : List ℕ) {o : Opening} (opens : opening s ≡ fine o) where
 
   -- the items of the pack, by a test that tells what it carries
   body-is : (test : Name → Bool) → ((b : Body) → firstIn test (payloadsOf (b .parts)) ≡ firstAt (carried l (read b)))
-      → soughtBody test (itemsFrom (length s) s (tagsOf (o .mappings)) (o .next) 0) ≡ soughtIn l (reading s)
+      → soughtBody test (itemsFrom (length s) s (packGround (o .offset) (o .mappings)) (o .next) 0) ≡ soughtIn l (reading s)
   unfolding readFrom soughtBody soughtIn andThen
-  body-is test each = whole (itemsFrom (length s) s (tagsOf (o .mappings)) (o .next) 0) ∙ sym (ap (soughtIn l) (reading-opens s ∙ then-fine (readFrom s) opens))
+  body-is test each = whole (itemsFrom (length s) s (packGround (o .offset) (o .mappings)) (o .next) 0) ∙ sym (ap (soughtIn l) (reading-opens s ∙ then-fine (readFrom s) opens))
     where
       whole : (x : Outcome Body) → soughtBody test x ≡ soughtIn l (andThen x (λ b. fine (read b)))
       whole (fine b) = each b
       whole (refused why p) = refl
 
-  module _ (bytes : Bytes s) {wanted : ℕ} (is : wanted ≡ wantedTag s l (tagsOf (o .mappings)) (placesOf (o .mappings))) {r : Sought} {n : ℕ} (at : n ≡ o .next)
-      (seeks : (tags : List ℕ) (test : Name → Bool) → Tells tags test wanted → r ≡ soughtBody test (itemsFrom (length s) s tags n 0)) where
+  module _ (bytes : Bytes s) {wanted : ℕ} (is : wanted ≡ wantedTag s l (tagsOf (o .mappings)) (placesOf (o .mappings))) {r : Sought} {n total : ℕ} (at : n ≡ o .next) (sum : total ≡ extended (o .offset))
+      (seeks : (tags : List ℕ) (test : Name → Bool) → Tells tags test wanted → r ≡ soughtBody test (itemsFrom (length s) s (groundOf tags total) n 0)) where
     sought-by : (test : Name → Bool) → Tells (tagsOf (o .mappings)) test wanted → ((b : Body) → firstIn test (payloadsOf (b .parts)) ≡ firstAt (carried l (read b)))
         → r ≡ soughtIn l (reading s)
     sought-by test tells each =
         seeks (tagsOf (o .mappings)) test tells
-        ∙ ap (λ (k : ℕ). soughtBody test (itemsFrom (length s) s (tagsOf (o .mappings)) k 0)) at
+        ∙ ap₂ (λ (k n : ℕ). soughtBody test (itemsFrom (length s) s (groundOf (tagsOf (o .mappings)) n) k 0)) at sum
         ∙ body-is test each
 
     pub sought-from : r ≡ soughtIn l (reading s)

@@ -1,4 +1,4 @@
--- Trusted. A label looked up in two packs: where its value stands in main or else in backup, with a mark that says in which.
+-- Trusted. A label looked up in two packs: where its value stands in main or else in backup, its total offset, and a mark that says in which.
 use mathlib.Core.List.{List, [], _∷_, _++_}
 use mathlib.Core.Bool.{Bool, false, cond}
 use Prim.Native.Nat.{ℕ}
@@ -8,6 +8,7 @@ use Rattle.runs.specs.Same.{same}
 use Rattle.runs.specs.Those.{those}
 use Rattle.refusals.specs.declared.Refusal.the-variants as R
 use Rattle.refusals.specs.Outcomes.{Outcome, fine, refused}
+use Rattle.numbers.specs.Big.{signed32}
 use Rattle.pack.specs.Said.{SaidName, label, number}
 use Rattle.pack.specs.Config.{labelsOf}
 use Rattle.pack.specs.Items.{Part, one, many}
@@ -35,10 +36,10 @@ unfoldable pub carried : List ℕ → Read → List Payload
 carried l r =
     cond (eqb (length l) 16) (those (λ (x : Payload). isLabel l (meantName (labelsOf (r .mappings)) (x .name))) (payloadsOf (r .body .parts))) []
 
--- where the first of them has its value; `next` where there is none
+-- where the first of them has its value, and its total offset; `next` where there is none
 abbrev pub firstOf : Mark → List Payload → Found → Found
 firstOf mark [] next = next
-firstOf mark (x ∷ xs) next = F.At mark (x .«value_start») (x .«value_len»)
+firstOf mark (x ∷ xs) next = F.At mark (x .«value_start») (x .«value_len») (signed32 (x .total))
 
 -- a pack that is accepted is looked at; a refusal has the mark of its pack
 abbrev pub accepted : Mark → Outcome Read → (Read → Found) → Found
@@ -60,5 +61,5 @@ packOf M.Neither main backup = []
 
 -- the very stretch of that pack; nothing on a refusal
 unfoldable pub partOf : List ℕ → List ℕ → Found → List ℕ
-partOf main backup (F.At mark start len) = stretchIn (packOf mark main backup) start len
+partOf main backup (F.At mark start len total) = stretchIn (packOf mark main backup) start len
 partOf main backup (F.Refused why place mark) = []

@@ -4,6 +4,7 @@ ghost use mathlib.Core.List.{List};
 ghost use mathlib.Core.Bool.{Bool};
 ghost use Prim.Native.Nat.{ℕ, _+_, _<_, _≤_};
 ghost use lib.ListN.{length, take};
+ghost use Rattle.pack.specs.Payloads.{groundOf};
 ghost use Rattle.pack.specs.Items.{itemsFrom};
 ghost use Rattle.pack.specs.Reading.{reading};
 ghost use Rattle.pack.specs.declared.Name.{Name};
@@ -22,12 +23,13 @@ pub enum Mark {
     Neither,
 }
 
-// Where the value stands: its pack, its start and its length; or the refusal, its place and the pack at fault.
+// Where the value stands: its pack, its start and its length, and its payload's total offset; or the refusal, its place and the pack at fault.
 pub enum Found {
     At {
         from: Mark,
         start: usize,
         len: usize,
+        total: i64,
     },
     Refused {
         why: Refusal,
@@ -36,20 +38,29 @@ pub enum Found {
     },
 }
 
-// What one pack has of a label: where the value of its first payload stands, or none, or the pack's refusal.
+// What one pack has of a label: where the value of its first payload stands and its total offset in two's complement, or none, or the pack's refusal.
 pub enum Sought {
-    At { start: usize, len: usize },
+    At {
+        start: usize,
+        len: usize,
+        total: u32,
+    },
     Absent,
-    Refused { why: Refusal, place: usize },
+    Refused {
+        why: Refusal,
+        place: usize,
+    },
 }
 
-// Where a value stands. Before any is found `start` is 0, where no value stands.
+// Where a value stands, and its payload's total offset. Before any is found `start` is 0, where no value stands. It stays this small so that the loops keep it
+// in registers.
 pub struct Spot {
-    pub start: usize,
-    pub len: usize,
+    pub start: u32,
+    pub len: u32,
+    pub total: u32,
 }
 
-// What the inside of a Sync comes to: how many items and payloads there are with its own, or the refusal; and where the value of its first payload stands
+// What the inside of a Sync comes to: how many items and payloads there are with its own, or the refusal; and what its first payload has
 // that is sought.
 pub struct Inside {
     pub answer: Answer,
@@ -66,8 +77,9 @@ fn sought_of(spot: Spot) -> Sought
         return Sought::Absent;
     }
     Sought::At {
-        start: spot.start,
-        len: spot.len,
+        start: spot.start as usize,
+        len: spot.len as usize,
+        total: spot.total,
     }
 }
 
@@ -79,22 +91,33 @@ fn or_else(first: Spot, next: Spot) -> Spot
 }
 
 // What was found before, or else a payload, if its tag is the one that is sought.
-fn or_payload(first: Spot, wanted: u32, tag: u32, start: usize, len: usize) -> Spot
-    requires { ⌜ 0 < start ⌝ }
-    ensures { λ r. ⌜ soughtOf r ≡ orElse (soughtOf first) (ofTag wanted tag start len) ⌝ }
+fn or_payload(first: Spot, wanted: u32, tag: u32, start: usize, len: usize, total: u32) -> Spot
+    requires { ⌜ (0 < start) × (start + len ≤ 32768) ⌝ }
+    ensures { λ r. ⌜ soughtOf r ≡ orElse (soughtOf first) (ofTag wanted tag start len total) ⌝ }
 {
     if tag != wanted {
         return first;
     }
-    or_else(first, Spot { start, len })
+    or_else(
+        first,
+        Spot {
+            start: start as u32,
+            len: len as u32,
+            total,
+        },
+    )
 }
 
-// The payloads of the inside of a Sync, which stands at `base` of the pack, where `used` items and payloads came before.
-fn seek_inside(q: &[u8], base: usize, used: usize, wanted: u32) -> Inside
+// The payloads of the inside of a Sync, which stands at `base` of the pack and gives them their total offset, where `used` items and payloads came before.
+fn seek_inside(q: &[u8], base: usize, used: usize, wanted: u32, total: u32) -> Inside
     requires { ⌜ (used ≤ 64) × (base + length (now q) ≤ 32768) ⌝ }
-    ensures { λ r. ⌜ ((tags : List ℕ) (test : Name → Bool) → Tells tags test wanted → InsideSought (now (q .entry)) tags test base used r) ⌝ }
+    ensures { λ r. ⌜ ((tags : List ℕ) (test : Name → Bool) → Tells tags test wanted → InsideSought (now (q .entry)) (groundOf tags total) test base used r) ⌝ }
 {
-    let mut first = Spot { start: 0, len: 0 };
+    let mut first = Spot {
+        start: 0,
+        len: 0,
+        total: 0,
+    };
     let mut n = used;
     let mut at: usize = 0;
     while at < q.len() {
@@ -111,7 +134,7 @@ fn seek_inside(q: &[u8], base: usize, used: usize, wanted: u32) -> Inside
                 value_start,
                 value_len,
             } => {
-                first = or_payload(first, wanted, tag, base + value_start, value_len);
+                first = or_payload(first, wanted, tag, base + value_start, value_len, total);
                 n += 1;
                 at = value_start + value_len;
             }
@@ -123,12 +146,17 @@ fn seek_inside(q: &[u8], base: usize, used: usize, wanted: u32) -> Inside
     }
 }
 
-// The items of the pack from `from` on: the refusal, or where the value of the first payload stands that is sought. Nothing is stored of the others.
-fn seek_items(s: &[u8], from: usize, wanted: u32) -> Sought
+// The items of the pack from `from` on, which have this total offset outside Syncs: the refusal, or what the first payload has that is sought. Nothing is
+// stored of the others.
+fn seek_items(s: &[u8], from: usize, wanted: u32, total: u32) -> Sought
     requires { ⌜ length (now s) ≤ 32768 ⌝ }
-    ensures { λ r. ⌜ ((tags : List ℕ) (test : Name → Bool) → Tells tags test wanted → r ≡ soughtBody test (itemsFrom (length (now (s .entry))) (now (s .entry)) tags from 0)) ⌝ }
+    ensures { λ r. ⌜ ((tags : List ℕ) (test : Name → Bool) → Tells tags test wanted → r ≡ soughtBody test (itemsFrom (length (now (s .entry))) (now (s .entry)) (groundOf tags total) from 0)) ⌝ }
 {
-    let mut first = Spot { start: 0, len: 0 };
+    let mut first = Spot {
+        start: 0,
+        len: 0,
+        total: 0,
+    };
     let mut n: usize = 0;
     let mut at = from;
     while at < s.len() {
@@ -151,7 +179,7 @@ fn seek_items(s: &[u8], from: usize, wanted: u32) -> Sought
                 value_start,
                 value_len,
             } => {
-                first = or_payload(first, wanted, tag, value_start, value_len);
+                first = or_payload(first, wanted, tag, value_start, value_len, total);
                 n += 1;
                 at = value_start + value_len;
             }
@@ -162,7 +190,9 @@ fn seek_items(s: &[u8], from: usize, wanted: u32) -> Sought
                 let base = value_start + 4;
                 let end = value_start + value_len;
                 let used = n + 1;
-                let inside = seek_inside(&s[base..end], base, used, wanted);
+                let own = numbers::be16(s, value_start);
+                let inner = numbers::sum32(total, own);
+                let inside = seek_inside(&s[base..end], base, used, wanted, inner);
                 let answer = inside.answer;
                 match answer {
                     Answer::Refused { why, place } => {
@@ -175,8 +205,8 @@ fn seek_items(s: &[u8], from: usize, wanted: u32) -> Sought
                                 place: at,
                             };
                         }
-                        let inner = inside.first;
-                        first = or_else(first, inner);
+                        let next = inside.first;
+                        first = or_else(first, next);
                         n = k;
                         at = end;
                     }
@@ -216,12 +246,12 @@ fn sought_in(pack: &[u8], label: &[u8]) -> Sought
     match opened {
         Opened::Refused { why, place } => Sought::Refused { why, place },
         Opened::From {
-            offset: _,
+            offset,
             mapped,
             next,
         } => {
             let wanted = mapped_to(pack, &tags, &places, mapped, label);
-            seek_items(pack, next, wanted)
+            seek_items(pack, next, wanted, numbers::extended(offset))
         }
     }
 }
@@ -233,14 +263,14 @@ fn refused(why: Refusal, place: usize, from: Mark) -> Found
     Found::Refused { why, place, from }
 }
 
-// Where the value of a label's first payload stands, in main or else in backup; or the refusal: main's, then backup's, then ABSENT.
+// Where the value of a label's first payload stands, in main or else in backup, and its total offset; or the refusal: main's, then backup's, then ABSENT.
 pub fn lookup(main: &[u8], backup: &[u8], label: &[u8]) -> Found
     ensures { λ r. ⌜ r ≡ lookedUp (now (main .entry)) (now (backup .entry)) (now (label .entry)) ⌝ }
 {
     let first = sought_in(main, label);
     match first {
         Sought::Refused { why, place } => refused(why, place, Mark::Main),
-        Sought::At { start, len } => {
+        Sought::At { start, len, total } => {
             // Main has it, so that of backup nothing is wanted but its check.
             let other = pack_check::check(backup);
             match other {
@@ -249,6 +279,7 @@ pub fn lookup(main: &[u8], backup: &[u8], label: &[u8]) -> Found
                     from: Mark::Main,
                     start,
                     len,
+                    total: numbers::signed32(total),
                 },
             }
         }
@@ -256,10 +287,11 @@ pub fn lookup(main: &[u8], backup: &[u8], label: &[u8]) -> Found
             let second = sought_in(backup, label);
             match second {
                 Sought::Refused { why, place } => refused(why, place, Mark::Backup),
-                Sought::At { start, len } => Found::At {
+                Sought::At { start, len, total } => Found::At {
                     from: Mark::Backup,
                     start,
                     len,
+                    total: numbers::signed32(total),
                 },
                 Sought::Absent => refused(Refusal::Absent, 0, Mark::Neither),
             }
@@ -277,7 +309,12 @@ pub fn part<'a>(main: &'a [u8], backup: &'a [u8], found: Found) -> &'a [u8]
             place: _,
             from: _,
         } => &main[0..0],
-        Found::At { from, start, len } => match from {
+        Found::At {
+            from,
+            start,
+            len,
+            total: _,
+        } => match from {
             Mark::Main => pack_value::stretch(main, start, len),
             Mark::Backup => pack_value::stretch(backup, start, len),
             Mark::Neither => &main[0..0],

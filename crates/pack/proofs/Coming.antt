@@ -11,8 +11,8 @@ use Rattle.refusals.specs.declared.Refusal.the-variants as R
 use Rattle.refusals.specs.declared.Answer.{Answer}
 use Rattle.refusals.specs.declared.Answer.the-variants as A
 use Rattle.refusals.specs.Outcomes.{Outcome, fine, refused, andThen, answered}
-use Rattle.pack.specs.Payloads.{payload, innersFrom}
-use Rattle.pack.specs.Items.{Part, one, many, Body, itemAt, someInside, syncHead, crcGood, with, itemsFrom, countOf}
+use Rattle.pack.specs.Payloads.{Ground, payload, innersFrom}
+use Rattle.pack.specs.Items.{Part, one, many, Body, itemAt, someInside, syncGround, syncHead, crcGood, with, itemsFrom, countOf}
 use Rattle.pack.specs.declared.Payload.{Payload}
 use Rattle.pack.specs.declared.Step.{Step}
 use Rattle.pack.specs.declared.Step.the-variants as S
@@ -23,8 +23,8 @@ use Rattle.pack.proofs.Turns.{itemsOn, items-end, items-turn, inside-no
 use Rattle.pack.specs.Inside.{InsideTold}
 
 -- the inside of a Sync, as the definition cuts it and as the code does
-abbrev pub insideRun : List ℕ → List ℕ → ℕ → ℕ → ℕ → Outcome (List Payload)
-insideRun s tags v l used = innersFrom l (take (l - 4) (drop (v + 4) s)) tags (v + 4) 0 (used + 1)
+abbrev pub insideRun : List ℕ → Ground → ℕ → ℕ → ℕ → Outcome (List Payload)
+insideRun s ground v l used = innersFrom l (take (l - 4) (drop (v + 4) s)) (syncGround s ground v) (v + 4) 0 (used + 1)
 
 pub inside-part : (s : List ℕ) (v l : ℕ) → take (v + l - (v + 4)) (drop (v + 4) s) ≡ take (l - 4) (drop (v + 4) s)
 inside-part s v l = let e : v + l - (v + 4) ≡ l - 4 = omega arith in ap (λ (x : ℕ). take x (drop (v + 4) s)) e
@@ -45,58 +45,58 @@ count-more (many h ys ∷ ps) x = omega (arith, count-more ps x)
 abbrev before : List Part → Body → Outcome Body
 before ps b = fine (record { parts = ps ++ b .parts; crc = b .crc })
 
-pub record Coming (s tags : List ℕ) (from : ℕ) (parts : List Part) (n at : ℕ) : Type 0 where
+pub record Coming (s : List ℕ) (ground : Ground) (from : ℕ) (parts : List Part) (n at : ℕ) : Type 0 where
   pub fuel : ℕ
   pub room : n ≤ 64
   pub long : countOf parts ≡ n
   pub enough : length s ≤ at + fuel
-  pub same : andThen (itemsFrom fuel s tags at n) (before parts) ≡ itemsFrom (length s) s tags from 0
+  pub same : andThen (itemsFrom fuel s ground at n) (before parts) ≡ itemsFrom (length s) s ground from 0
 
-pub coming-begins : (s tags : List ℕ) (from : ℕ) → Coming s tags from [] 0 from
+pub coming-begins : (s : List ℕ) (ground : Ground) (from : ℕ) → Coming s ground from [] 0 from
 unfolding countOf
-coming-begins s tags from = record {
+coming-begins s ground from = record {
   fuel = length s;
   room = omega arith;
   long = refl;
   enough = omega arith;
-  same = then-id (before []) (λ b. refl) (itemsFrom (length s) s tags from 0);
+  same = then-id (before []) (λ b. refl) (itemsFrom (length s) s ground from 0);
 }
 
 -- the same for some items, which is all that a check keeps
-pub record Counting (s tags : List ℕ) (from n at : ℕ) : Type 0 where
+pub record Counting (s : List ℕ) (ground : Ground) (from n at : ℕ) : Type 0 where
   pub parts : List Part
-  pub coming : Coming s tags from parts n at
+  pub coming : Coming s ground from parts n at
 
-module _ {s tags : List ℕ} {from : ℕ} {ps : List Part} {n at : ℕ} (g : Coming s tags from ps n at) where
-  ended : {c : Bool} → itemsFrom (g .fuel) s tags at n ≡ fine (record { parts = []; crc = c }) → itemsFrom (length s) s tags from 0 ≡ fine (record { parts = ps; crc = c })
+module _ {s : List ℕ} {ground : Ground} {from : ℕ} {ps : List Part} {n at : ℕ} (g : Coming s ground from ps n at) where
+  ended : {c : Bool} → itemsFrom (g .fuel) s ground at n ≡ fine (record { parts = []; crc = c }) → itemsFrom (length s) s ground from 0 ≡ fine (record { parts = ps; crc = c })
   ended {c} e = sym (g .same) ∙ then-fine (before ps) e ∙ ap (λ (l : List Part). fine (record { parts = l; crc = c })) (append-nil ps)
 
-  pub coming-ends : length s ≤ at → itemsFrom (length s) s tags from 0 ≡ fine (record { parts = ps; crc = false })
-  coming-ends h = ended (items-end s tags at n (g .fuel) h)
+  pub coming-ends : length s ≤ at → itemsFrom (length s) s ground from 0 ≡ fine (record { parts = ps; crc = false })
+  coming-ends h = ended (items-end s ground at n (g .fuel) h)
 
   module _ (h : at < length s) where
-    turn : {r : Step} → itemAt s at n ≡ r → itemsFrom (g .fuel) s tags at n ≡ itemsOn s tags at n (g .fuel - 1) r
-    turn e = items-turn s tags at n (g .fuel - 1) (omega (arith, g .enough)) h e
+    turn : {r : Step} → itemAt s at n ≡ r → itemsFrom (g .fuel) s ground at n ≡ itemsOn s ground at n (g .fuel - 1) r
+    turn e = items-turn s ground at n (g .fuel - 1) (omega (arith, g .enough)) h e
 
-    stopped : {why : Refusal} {p : ℕ} → itemsFrom (g .fuel) s tags at n ≡ refused why p → itemsFrom (length s) s tags from 0 ≡ refused why p
+    stopped : {why : Refusal} {p : ℕ} → itemsFrom (g .fuel) s ground at n ≡ refused why p → itemsFrom (length s) s ground from 0 ≡ refused why p
     stopped e = sym (g .same) ∙ then-refused (before ps) e
 
-    pub coming-bad : {why : Refusal} → itemAt s at n ≡ S.Bad why → itemsFrom (length s) s tags from 0 ≡ refused why at
+    pub coming-bad : {why : Refusal} → itemAt s at n ≡ S.Bad why → itemsFrom (length s) s ground from 0 ≡ refused why at
     coming-bad e = stopped (turn e)
 
     -- a CRC, good or not
-    judged : {v : ℕ} {b : Bool} → itemAt s at n ≡ S.Close v → crcGood s v ≡ b → itemsFrom (g .fuel) s tags at n ≡ cond b (fine (record { parts = []; crc = true })) (refused R.Crc at)
+    judged : {v : ℕ} {b : Bool} → itemAt s at n ≡ S.Close v → crcGood s v ≡ b → itemsFrom (g .fuel) s ground at n ≡ cond b (fine (record { parts = []; crc = true })) (refused R.Crc at)
     judged e d = turn e ∙ ap (λ (b : Bool). cond b (fine (record { parts = []; crc = true })) (refused R.Crc at)) d
 
-    pub coming-good : {v : ℕ} → itemAt s at n ≡ S.Close v → crcGood s v ≡ true → itemsFrom (length s) s tags from 0 ≡ fine (record { parts = ps; crc = true })
+    pub coming-good : {v : ℕ} → itemAt s at n ≡ S.Close v → crcGood s v ≡ true → itemsFrom (length s) s ground from 0 ≡ fine (record { parts = ps; crc = true })
     coming-good e d = ended (judged e d)
 
-    pub coming-crc : {v : ℕ} → itemAt s at n ≡ S.Close v → crcGood s v ≡ false → itemsFrom (length s) s tags from 0 ≡ refused R.Crc at
+    pub coming-crc : {v : ℕ} → itemAt s at n ≡ S.Close v → crcGood s v ≡ false → itemsFrom (length s) s ground from 0 ≡ refused R.Crc at
     coming-crc e d = stopped (judged e d)
 
     -- one part more, and what is left after it
     on : (x : Part) (m next : ℕ) → n + countOf (x ∷ []) ≡ m → m ≤ 64 → at < next
-        → itemsFrom (g .fuel) s tags at n ≡ andThen (itemsFrom (g .fuel - 1) s tags next m) (with x) → Coming s tags from (ps ++ (x ∷ [])) m next
+        → itemsFrom (g .fuel) s ground at n ≡ andThen (itemsFrom (g .fuel - 1) s ground next m) (with x) → Coming s ground from (ps ++ (x ∷ [])) m next
     unfolding andThen
     on x m next c r l e = record {
       fuel = g .fuel - 1;
@@ -105,39 +105,39 @@ module _ {s tags : List ℕ} {from : ℕ} {ps : List Part} {n at : ℕ} (g : Com
       enough = omega (arith, g .enough);
       same =
           then-same (before (ps ++ (x ∷ []))) (λ b. before ps (record { parts = x ∷ b .parts; crc = b .crc }))
-          (λ b. ap (λ (q : List Part). fine (record { parts = q; crc = b .crc })) (append-assoc ps (x ∷ []) (b .parts))) (itemsFrom (g .fuel - 1) s tags next m)
-          ∙ sym (then-then (itemsFrom (g .fuel - 1) s tags next m) (with x) (before ps))
+          (λ b. ap (λ (q : List Part). fine (record { parts = q; crc = b .crc })) (append-assoc ps (x ∷ []) (b .parts))) (itemsFrom (g .fuel - 1) s ground next m)
+          ∙ sym (then-then (itemsFrom (g .fuel - 1) s ground next m) (with x) (before ps))
           ∙ ap (λ (o : Outcome Body). andThen o (before ps)) (sym e)
           ∙ g .same;
     }
 
-    pub coming-plain : {t v l : ℕ} → itemAt s at n ≡ S.Plain t v l → Coming s tags from (ps ++ (one (payload tags at t v l) ∷ [])) (n + 1) (v + l)
+    pub coming-plain : {t v l : ℕ} → itemAt s at n ≡ S.Plain t v l → Coming s ground from (ps ++ (one (payload ground at t v l) ∷ [])) (n + 1) (v + l)
     unfolding countOf
     coming-plain {t} {v} {l} e =
         let f = plain-fits s at n t v l e in
-        on (one (payload tags at t v l)) (n + 1) (v + l) (omega arith) (omega (arith, f .room)) (omega (arith, f .later)) (turn e)
+        on (one (payload ground at t v l)) (n + 1) (v + l) (omega arith) (omega (arith, f .room)) (omega (arith, f .later)) (turn e)
 
     -- a Sync, by what is told of its inside, as the code cuts it
-    module _ {v l : ℕ} (e : itemAt s at n ≡ S.Open v l) {r : Answer} (i : InsideTold (take (v + l - (v + 4)) (drop (v + 4) s)) tags (v + 4) (n + 1) r) where
-      answer : r ≡ answered (λ (xs : List Payload). n + 1 + length xs) (insideRun s tags v l n)
-      answer = subst (λ (q : List ℕ). InsideTold q tags (v + 4) (n + 1) r) (inside-part s v l) i .told l (inside-enough s at n v l e)
+    module _ {v l : ℕ} (e : itemAt s at n ≡ S.Open v l) {r : Answer} (i : InsideTold (take (v + l - (v + 4)) (drop (v + 4) s)) (syncGround s ground v) (v + 4) (n + 1) r) where
+      answer : r ≡ answered (λ (xs : List Payload). n + 1 + length xs) (insideRun s ground v l n)
+      answer = subst (λ (q : List ℕ). InsideTold q (syncGround s ground v) (v + 4) (n + 1) r) (inside-part s v l) i .told l (inside-enough s at n v l e)
 
-      pub sync-refused : {why : Refusal} {p : ℕ} → r ≡ A.Refused why p → itemsFrom (length s) s tags from 0 ≡ refused why p
+      pub sync-refused : {why : Refusal} {p : ℕ} → r ≡ A.Refused why p → itemsFrom (length s) s ground from 0 ≡ refused why p
       sync-refused d = stopped (turn e ∙ then-refused _ (then-refused (someInside at) (refused-was _ answer d)))
 
       module _ {k : ℕ} (d : r ≡ A.Done k) where
-        inside : (xs : List Payload) × (insideRun s tags v l n ≡ fine xs) × (n + 1 + length xs ≡ k)
+        inside : (xs : List Payload) × (insideRun s ground v l n ≡ fine xs) × (n + 1 + length xs ≡ k)
         inside = done-was (λ (xs : List Payload). n + 1 + length xs) answer d
 
         pub sync-some : n + 1 ≤ k
         sync-some = omega (arith, inside .2)
 
-        pub sync-none : k ≡ n + 1 → itemsFrom (length s) s tags from 0 ≡ refused R.Sync at
+        pub sync-none : k ≡ n + 1 → itemsFrom (length s) s ground from 0 ≡ refused R.Sync at
         sync-none u = stopped (turn e ∙ then-refused _ (then-fine (someInside at) (inside .1) ∙ inside-none at (inside .0) (omega (arith, inside .2))))
 
         -- it holds payloads, and is one part more
         pub sync-on : (k ≡ n + 1 → ⊥)
-            → (xs : List Payload) × (insideRun s tags v l n ≡ fine xs) × (n + 1 + length xs ≡ k) × Coming s tags from (ps ++ (many (syncHead s at v l (length xs)) xs ∷ [])) k (v + l)
+            → (xs : List Payload) × (insideRun s ground v l n ≡ fine xs) × (n + 1 + length xs ≡ k) × Coming s ground from (ps ++ (many (syncHead s at v l (length xs)) xs ∷ [])) k (v + l)
         unfolding countOf
         sync-on u =
             let f = open-fits s at n v l e in
@@ -149,5 +149,5 @@ module _ {s tags : List ℕ} {from : ℕ} {ps : List Part} {n at : ℕ} (g : Com
               m,
               on x k (v + l) (omega arith) (i .few k d) (omega (arith, f .0 .later))
                   (turn e ∙ then-fine _ (then-fine (someInside at) (inside .1) ∙ inside-some at xs (λ z. u (omega arith)))
-                  ∙ ap (λ (z : ℕ). andThen (itemsFrom (g .fuel - 1) s tags (v + l) z) (with x)) m),
+                  ∙ ap (λ (z : ℕ). andThen (itemsFrom (g .fuel - 1) s ground (v + l) z) (with x)) m),
             )

@@ -17,7 +17,7 @@ use Rattle.numbers.specs.declared.TagRead.the-variants as T
 use Rattle.numbers.specs.Tags.{tagAt}
 use Rattle.numbers.proofs.Tags.{tag-next}
 use Rattle.pack.specs.Config.{Mapping, tagsOf, labelsOf, clashes, mappingAt, mappingsFrom}
-use Rattle.pack.specs.Payloads.{innerAt, payload, innersFrom}
+use Rattle.pack.specs.Payloads.{innerAt, Ground, payload, innersFrom}
 use Rattle.pack.specs.Items.{one, many, Body, itemAt, insideOf, syncHead, with, itemsFrom}
 use Rattle.pack.specs.declared.Found.{Found}
 use Rattle.pack.specs.declared.Found.the-variants.{Whole, Wrong}
@@ -29,64 +29,64 @@ use Rattle.pack.proofs.Turns.{mappings-end, mappings-turn, innersOn, in
 
 -- THE PAYLOADS OF A PART
 
-module _ (q tags : List ℕ) (base : ℕ) where
+module _ (q : List ℕ) (ground : Ground) (base : ℕ) where
   -- j steps do as well as k from wherever k are enough
   abbrev InnersSame : ℕ → ℕ → Type 0
-  InnersSame j k = (at used : ℕ) → length q ≤ at + k → innersFrom j q tags base at used ≡ innersFrom k q tags base at used
+  InnersSame j k = (at used : ℕ) → length q ≤ at + k → innersFrom j q ground base at used ≡ innersFrom k q ground base at used
 
   inners-on : (j k : ℕ) → InnersSame j k → (at used : ℕ) → length q ≤ at + suc k → (r : Found) → innerAt q at used ≡ r
-      → innersOn q tags base at used j r ≡ innersOn q tags base at used k r
+      → innersOn q ground base at used j r ≡ innersOn q ground base at used k r
   inners-on j k same at used h (Whole t v l) e =
-      ap (λ (o : Outcome (List Payload)). andThen o (λ xs. fine (payload tags (base + at) t (base + v) l ∷ xs)))
+      ap (λ (o : Outcome (List Payload)). andThen o (λ xs. fine (payload ground (base + at) t (base + v) l ∷ xs)))
       (same (v + l) (used + 1) (omega (arith, h, (inner-within q at used t v l e) .later)))
   inners-on j k same at used h (Wrong why) e = refl
 
-  inners-enough : (more k : ℕ) → k ≤ more → (at used : ℕ) → length q ≤ at + k → innersFrom more q tags base at used ≡ innersFrom k q tags base at used
-  inners-enough more zero le at used h = inners-end q tags base at used more (omega arith) ∙ sym (inners-end q tags base at used zero (omega arith))
+  inners-enough : (more k : ℕ) → k ≤ more → (at used : ℕ) → length q ≤ at + k → innersFrom more q ground base at used ≡ innersFrom k q ground base at used
+  inners-enough more zero le at used h = inners-end q ground base at used more (omega arith) ∙ sym (inners-end q ground base at used zero (omega arith))
   inners-enough zero (suc k) le at used h = absurd (omega arith)
   inners-enough (suc j) (suc k) le at used h =
       split (ltb at (length q))
       (λ l.
       let there = ltb-true at (length q) l in
-      inners-turn q tags base at used j refl there refl
+      inners-turn q ground base at used j refl there refl
       ∙ inners-on j k (inners-enough j k (omega arith)) at used h (innerAt q at used) refl
-      ∙ sym (inners-turn q tags base at used k refl there refl))
+      ∙ sym (inners-turn q ground base at used k refl there refl))
       (λ l.
       let gone = ltb-false at (length q) l in
-      inners-end q tags base at used (suc j) gone ∙ sym (inners-end q tags base at used (suc k) gone))
+      inners-end q ground base at used (suc j) gone ∙ sym (inners-end q ground base at used (suc k) gone))
 
 -- THE ITEMS
 
-module _ (s tags : List ℕ) where
+module _ (s : List ℕ) (ground : Ground) where
   abbrev ItemsSame : ℕ → ℕ → Type 0
-  ItemsSame j k = (at used : ℕ) → length s ≤ at + k → itemsFrom j s tags at used ≡ itemsFrom k s tags at used
+  ItemsSame j k = (at used : ℕ) → length s ≤ at + k → itemsFrom j s ground at used ≡ itemsFrom k s ground at used
 
   items-on : (j k : ℕ) → ItemsSame j k → (at used : ℕ) → length s ≤ at + suc k → (r : Step) → itemAt s at used ≡ r
-      → itemsOn s tags at used j r ≡ itemsOn s tags at used k r
+      → itemsOn s ground at used j r ≡ itemsOn s ground at used k r
   items-on j k same at used h (S.Plain t v l) e =
-      ap (λ (o : Outcome Body). andThen o (with (one (payload tags at t v l))))
+      ap (λ (o : Outcome Body). andThen o (with (one (payload ground at t v l))))
       (same (v + l) (used + 1) (omega (arith, h, (plain-fits s at used t v l e) .later)))
   items-on j k same at used h (S.Open v l) e =
       let further : length s ≤ v + l + k = omega (arith, h, (open-fits s at used v l e) .0 .later) in
       then-same
-      (λ xs. andThen (itemsFrom j s tags (v + l) (used + 1 + length xs)) (with (many (syncHead s at v l (length xs)) xs)))
-      (λ xs. andThen (itemsFrom k s tags (v + l) (used + 1 + length xs)) (with (many (syncHead s at v l (length xs)) xs)))
+      (λ xs. andThen (itemsFrom j s ground (v + l) (used + 1 + length xs)) (with (many (syncHead s at v l (length xs)) xs)))
+      (λ xs. andThen (itemsFrom k s ground (v + l) (used + 1 + length xs)) (with (many (syncHead s at v l (length xs)) xs)))
       (λ xs. ap (λ (o : Outcome Body). andThen o (with (many (syncHead s at v l (length xs)) xs))) (same (v + l) (used + 1 + length xs) further))
-      (insideOf s tags at v l used)
+      (insideOf s ground at v l used)
   items-on j k same at used h (S.Close v) e = refl
   items-on j k same at used h (S.Bad why) e = refl
 
-  items-enough : (more k : ℕ) → k ≤ more → (at used : ℕ) → length s ≤ at + k → itemsFrom more s tags at used ≡ itemsFrom k s tags at used
-  items-enough more zero le at used h = items-end s tags at used more (omega arith) ∙ sym (items-end s tags at used zero (omega arith))
+  items-enough : (more k : ℕ) → k ≤ more → (at used : ℕ) → length s ≤ at + k → itemsFrom more s ground at used ≡ itemsFrom k s ground at used
+  items-enough more zero le at used h = items-end s ground at used more (omega arith) ∙ sym (items-end s ground at used zero (omega arith))
   items-enough zero (suc k) le at used h = absurd (omega arith)
   items-enough (suc j) (suc k) le at used h =
       split (ltb at (length s))
       (λ l.
       let there = ltb-true at (length s) l in
-      items-turn s tags at used j refl there refl
+      items-turn s ground at used j refl there refl
       ∙ items-on j k (items-enough j k (omega arith)) at used h (itemAt s at used) refl
-      ∙ sym (items-turn s tags at used k refl there refl))
-      (λ l. let gone = ltb-false at (length s) l in items-end s tags at used (suc j) gone ∙ sym (items-end s tags at used (suc k) gone))
+      ∙ sym (items-turn s ground at used k refl there refl))
+      (λ l. let gone = ltb-false at (length s) l in items-end s ground at used (suc j) gone ∙ sym (items-end s ground at used (suc k) gone))
 
 -- THE MAPPINGS
 
@@ -140,12 +140,12 @@ module _ (c : List ℕ) (place : ℕ) where
 few : (n : ℕ) (xs : List ℕ) → length (take n xs) ≤ n
 few n xs = simp length-take (omega arith)
 
-pub fuel-enough : (s tags : List ℕ) (more at v l used : ℕ)
-    → (length s ≤ more → itemsFrom more s tags at used ≡ itemsFrom (length s) s tags at used)
-    × (l ≤ more → innersFrom more (take (l - 4) (drop (v + 4) s)) tags (v + 4) 0 used ≡ innersFrom l (take (l - 4) (drop (v + 4) s)) tags (v + 4) 0 used)
+pub fuel-enough : (s : List ℕ) (ground : Ground) (more at v l used : ℕ)
+    → (length s ≤ more → itemsFrom more s ground at used ≡ itemsFrom (length s) s ground at used)
+    × (l ≤ more → innersFrom more (take (l - 4) (drop (v + 4) s)) ground (v + 4) 0 used ≡ innersFrom l (take (l - 4) (drop (v + 4) s)) ground (v + 4) 0 used)
     × (l ≤ more → mappingsFrom more (take (v + l) s) at [] (v + 2) ≡ mappingsFrom l (take (v + l) s) at [] (v + 2))
-fuel-enough s tags more at v l used = (
-  λ h. items-enough s tags more (length s) h at used (omega arith),
-  λ h. inners-enough (take (l - 4) (drop (v + 4) s)) tags (v + 4) more l h 0 used (omega (arith, few (l - 4) (drop (v + 4) s))),
+fuel-enough s ground more at v l used = (
+  λ h. items-enough s ground more (length s) h at used (omega arith),
+  λ h. inners-enough (take (l - 4) (drop (v + 4) s)) ground (v + 4) more l h 0 used (omega (arith, few (l - 4) (drop (v + 4) s))),
   λ h. mappings-enough (take (v + l) s) at more l h [] (v + 2) (omega (arith, few (v + l) s)),
 )

@@ -14,7 +14,7 @@ use Rattle.refusals.proofs.Outcomes.{then-then}
 use Rattle.numbers.specs.declared.TagRead.the-variants as T
 use Rattle.numbers.specs.Tags.{tagAt}
 use Rattle.pack.specs.Config.{Mapping, tagsOf, labelsOf, clashes, mappingAt, mappingsFrom}
-use Rattle.pack.specs.Payloads.{innerAt, caseFound, payload, innersFrom}
+use Rattle.pack.specs.Payloads.{innerAt, caseFound, Ground, payload, innersFrom}
 use Rattle.pack.specs.Items.{one, many, Body, itemAt, caseStep, someInside, insideOf, syncHead, crcGood, with, itemsFrom}
 use Rattle.pack.specs.Reading.{valueStart, Opening, openingAt, readFrom, reading}
 use Rattle.pack.specs.declared.Found.{Found}
@@ -62,40 +62,40 @@ module _ (c : List ℕ) (place : ℕ) (seen : List Mapping) (at : ℕ) where
       mapping-fine g d = simp (lt-leb _ _ h, e, le-ltb _ _ g, d)
 
 -- the payloads of a part
-module _ (q tags : List ℕ) (base at used : ℕ) where
+module _ (q : List ℕ) (ground : Ground) (base at used : ℕ) where
   -- what is read by what stands there
   abbrev pub innersOn : ℕ → Found → Outcome (List Payload)
   innersOn j r =
-      caseFound r (λ t v l. andThen (innersFrom j q tags base (v + l) (used + 1)) (λ xs. fine (payload tags (base + at) t (base + v) l ∷ xs)))
+      caseFound r (λ t v l. andThen (innersFrom j q ground base (v + l) (used + 1)) (λ xs. fine (payload ground (base + at) t (base + v) l ∷ xs)))
       (λ why. refused why (base + at))
 
-  pub inners-end : (k : ℕ) → length q ≤ at → innersFrom k q tags base at used ≡ fine []
+  pub inners-end : (k : ℕ) → length q ≤ at → innersFrom k q ground base at used ≡ fine []
   unfolding innersFrom
   inners-end zero h = refl
   inners-end (suc k) h = simp (le-ltb _ _ h)
 
-  pub inners-turn : {k : ℕ} (j : ℕ) → k ≡ suc j → at < length q → {r : Found} → innerAt q at used ≡ r → innersFrom k q tags base at used ≡ innersOn j r
+  pub inners-turn : {k : ℕ} (j : ℕ) → k ≡ suc j → at < length q → {r : Found} → innerAt q at used ≡ r → innersFrom k q ground base at used ≡ innersOn j r
   unfolding innersFrom
-  inners-turn j d h e = ap (λ (n : ℕ). innersFrom n q tags base at used) d ∙ simp (lt-ltb _ _ h, e)
+  inners-turn j d h e = ap (λ (n : ℕ). innersFrom n q ground base at used) d ∙ simp (lt-ltb _ _ h, e)
 
 -- the items
-module _ (s tags : List ℕ) (at used : ℕ) where
+module _ (s : List ℕ) (ground : Ground) (at used : ℕ) where
   abbrev pub itemsOn : ℕ → Step → Outcome Body
   itemsOn j r =
-      caseStep r (λ t v l. andThen (itemsFrom j s tags (v + l) (used + 1)) (with (one (payload tags at t v l))))
-      (λ v l. andThen (insideOf s tags at v l used)
-      (λ xs. andThen (itemsFrom j s tags (v + l) (used + 1 + length xs)) (with (many (syncHead s at v l (length xs)) xs))))
+      caseStep r (λ t v l. andThen (itemsFrom j s ground (v + l) (used + 1)) (with (one (payload ground at t v l))))
+      (λ v l. andThen (insideOf s ground at v l used)
+      (λ xs. andThen (itemsFrom j s ground (v + l) (used + 1 + length xs)) (with (many (syncHead s at v l (length xs)) xs))))
       (λ v. cond (crcGood s v) (fine (record { parts = []; crc = true })) (refused R.Crc at))
       (λ why. refused why at)
 
-  pub items-end : (k : ℕ) → length s ≤ at → itemsFrom k s tags at used ≡ fine (record { parts = []; crc = false })
+  pub items-end : (k : ℕ) → length s ≤ at → itemsFrom k s ground at used ≡ fine (record { parts = []; crc = false })
   unfolding itemsFrom
   items-end zero h = refl
   items-end (suc k) h = simp (le-ltb _ _ h)
 
-  pub items-turn : {k : ℕ} (j : ℕ) → k ≡ suc j → at < length s → {r : Step} → itemAt s at used ≡ r → itemsFrom k s tags at used ≡ itemsOn j r
+  pub items-turn : {k : ℕ} (j : ℕ) → k ≡ suc j → at < length s → {r : Step} → itemAt s at used ≡ r → itemsFrom k s ground at used ≡ itemsOn j r
   unfolding itemsFrom
-  items-turn j d h e = ap (λ (n : ℕ). itemsFrom n s tags at used) d ∙ simp (lt-ltb _ _ h, e)
+  items-turn j d h e = ap (λ (n : ℕ). itemsFrom n s ground at used) d ∙ simp (lt-ltb _ _ h, e)
 
 -- a Sync holds at least one payload
 pub inside-none : (at : ℕ) (xs : List Payload) → length xs ≡ 0 → someInside at xs ≡ refused R.Sync at

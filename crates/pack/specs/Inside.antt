@@ -7,10 +7,10 @@ use Rattle.refusals.specs.declared.Answer.{Answer}
 use Rattle.refusals.specs.declared.Answer.the-variants as A
 use Rattle.refusals.specs.Outcomes.{answered}
 use Rattle.pack.specs.Fixed.{itemCap}
-use Rattle.pack.specs.Payloads.{innersFrom}
+use Rattle.pack.specs.Payloads.{Ground, innersFrom}
 use Rattle.pack.specs.declared.Payload.{Payload}
 
 -- the count of the payloads of an inside q, with the `used` before them; fuel, if it is enough, does not matter
-pub record InsideTold (q tags : List ℕ) (base used : ℕ) (r : Answer) : Type 0 where
-  pub told : (k : ℕ) → length q ≤ k → r ≡ answered (λ (xs : List Payload). used + length xs) (innersFrom k q tags base 0 used)
+pub record InsideTold (q : List ℕ) (ground : Ground) (base used : ℕ) (r : Answer) : Type 0 where
+  pub told : (k : ℕ) → length q ≤ k → r ≡ answered (λ (xs : List Payload). used + length xs) (innersFrom k q ground base 0 used)
   pub few : (n : ℕ) → r ≡ A.Done n → n ≤ itemCap

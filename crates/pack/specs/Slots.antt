@@ -27,7 +27,7 @@ slots (many h xs ∷ r) = slot (I.Sync h) ∷ (map (λ (x : Payload). slot (I.In
 
 -- the blank of a slot
 abbrev pub blank : Slot
-blank = slot (I.Single (record { name = Number 0; start = 0; «value_start» = 0; «value_len» = 0 }))
+blank = slot (I.Single (record { name = Number 0; start = 0; «value_start» = 0; «value_len» = 0; total = 0 }))
 
 -- a list in an array of n places, the rest of which holds one value
 abbrev pub padded : {A : Type 0} → ℕ → A → List A → List A

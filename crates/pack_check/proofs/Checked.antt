@@ -7,9 +7,9 @@ use Rattle.refusals.specs.declared.Refusal.{Refusal}
 use Rattle.refusals.specs.declared.Answer.{Answer}
 use Rattle.refusals.specs.declared.Answer.the-variants as A
 use Rattle.refusals.specs.Outcomes.{Outcome, fine, refused, andThen, answered}
-use Rattle.pack.specs.Config.{tagsOf}
+use Rattle.pack.specs.Payloads.{Ground}
 use Rattle.pack.specs.Items.{Body, itemsFrom, countOf}
-use Rattle.pack.specs.Reading.{Read, Opening, readFrom, checked}
+use Rattle.pack.specs.Reading.{Read, Opening, packGround, readFrom, checked}
 use Rattle.refusals.proofs.Lent.{answers}
 use Rattle.refusals.proofs.Outcomes.{then-fine, then-refused}
 use Rattle.pack.proofs.Turns.{opening, reading-opens}
@@ -26,12 +26,13 @@ module _ (s : List ℕ) where
   unfolding checked
   checked-stops e = answers _ (reading-opens s ∙ then-refused (readFrom s) e) refl
 
-  -- a count of the items from where they start on, which holds for any tags
+  -- a count of the items from where they start on, which holds for any ground
   pub checked-next : {o : Opening} {n : ℕ} {a : Answer} → opening s ≡ fine o → n ≡ o .next
-      → ((ts : List ℕ) → a ≡ answered counted (itemsFrom (length s) s ts n 0)) → a ≡ checked s
+      → ((ground : Ground) → a ≡ answered counted (itemsFrom (length s) s ground n 0)) → a ≡ checked s
   unfolding checked readFrom
   checked-next {o} e next h =
-      h (tagsOf (o .mappings))
-      ∙ ap (λ (k : ℕ). answered counted (itemsFrom (length s) s (tagsOf (o .mappings)) k 0)) next
-      ∙ body-count o (itemsFrom (length s) s (tagsOf (o .mappings)) (o .next) 0)
+      let ground = packGround (o .offset) (o .mappings) in
+      h ground
+      ∙ ap (λ (k : ℕ). answered counted (itemsFrom (length s) s ground k 0)) next
+      ∙ body-count o (itemsFrom (length s) s ground (o .next) 0)
       ∙ sym (ap (answered (λ (r : Read). countOf (r .body .parts))) (reading-opens s ∙ then-fine (readFrom s) e))

@@ -1,9 +1,9 @@
 // The check of a pack: the walk over it that stores nothing.
 ghost use mathlib.Core.Path.{_≡_};
-ghost use mathlib.Core.List.{List};
-ghost use Prim.Native.Nat.{ℕ, _+_, _≤_};
+ghost use Prim.Native.Nat.{_+_, _≤_};
 ghost use lib.ListN.{length};
 ghost use Rattle.refusals.specs.Outcomes.{answered};
+ghost use Rattle.pack.specs.Payloads.{Ground};
 ghost use Rattle.pack.specs.Items.{itemsFrom};
 ghost use Rattle.pack.specs.Inside.{InsideTold};
 ghost use Rattle.pack.specs.Reading.{configOf, openingAt, checked};
@@ -18,7 +18,7 @@ use refusals::Refusal;
 // before.
 fn count_inside(q: &[u8], base: usize, used: usize) -> Answer
     requires { ⌜ (used ≤ 64) × (base + length (now q) ≤ 32768) ⌝ }
-    ensures { λ r. ⌜ ((tags : List ℕ) → InsideTold (now (q .entry)) tags base used r) ⌝ }
+    ensures { λ r. ⌜ ((ground : Ground) → InsideTold (now (q .entry)) ground base used r) ⌝ }
 {
     let mut n = used;
     let mut at: usize = 0;
@@ -44,7 +44,7 @@ fn count_inside(q: &[u8], base: usize, used: usize) -> Answer
 // The items of the pack from `from` on.
 fn count_items(s: &[u8], from: usize) -> Answer
     requires { ⌜ length (now s) ≤ 32768 ⌝ }
-    ensures { λ r. ⌜ ((tags : List ℕ) → r ≡ answered counted (itemsFrom (length (now (s .entry))) (now (s .entry)) tags from 0)) ⌝ }
+    ensures { λ r. ⌜ ((ground : Ground) → r ≡ answered counted (itemsFrom (length (now (s .entry))) (now (s .entry)) ground from 0)) ⌝ }
 {
     let mut n: usize = 0;
     let mut at = from;

@@ -15,7 +15,9 @@ use Rattle.runs.proofs.Below.{below-take}
 use Rattle.runs.proofs.Stands.{stands-within}
 use Rattle.refusals.specs.Outcomes.{fine}
 use Rattle.refusals.proofs.Outcomes.{then-was}
+use Rattle.numbers.specs.Big.{bigAt, extended}
 use Rattle.numbers.proofs.Big.{big-lt}
+use Rattle.numbers.proofs.Signs.{extended-lt, sum-lt}
 use Rattle.pack.specs.Fixed.{packCap, itemCap, mappingCap}
 use Rattle.pack.specs.declared.Name.{Name}
 use Rattle.pack.specs.declared.Name.the-variants.{Label, Number}
@@ -24,7 +26,7 @@ use Rattle.pack.specs.declared.Head.{Head}
 use Rattle.pack.specs.declared.Item.{Item}
 use Rattle.pack.specs.declared.Item.the-variants as I
 use Rattle.pack.specs.declared.Slot.{Slot}
-use Rattle.pack.specs.Payloads.{nameFrom, nameOf}
+use Rattle.pack.specs.Payloads.{nameFrom, nameOf, Ground}
 use Rattle.pack.specs.Config.{Mapping, labelsOf, placesOf}
 use Rattle.pack.specs.Items.{Part, one, many, syncHead, countOf}
 use Rattle.pack.specs.Reading.{Read, Opening, valueStart, openingAt, reading}
@@ -50,6 +52,7 @@ pub record PayloadLies (s : List ℕ) (mapped : ℕ) (x : Payload) : Type 0 wher
   pub starts : x .start < x .«value_start»
   pub ends : x .«value_start» + x .«value_len» ≤ length s
   pub named : NameFits mapped (x .name)
+  pub total : x .total < 2 ^ 32
 
 pub record HeadLies (s : List ℕ) (h : Head) (xs : List Payload) : Type 0 where
   pub starts : h .start < h .«value_start»
@@ -110,29 +113,29 @@ name-from-fits i (x ∷ tags) t low high =
 name-fits : (tags : List ℕ) (t : ℕ) → 3 < t → t < 128 ^ 4 → NameFits (length tags) (nameOf tags t)
 name-fits tags t low high = subst (λ (n : ℕ). NameFits n (nameOf tags t)) (zero-add (length tags)) (name-from-fits 0 tags t low high)
 
-inners-lie : (s : List ℕ) {q tags : List ℕ} {base at used : ℕ} {xs : List Payload} → Bytes q → base + length q ≤ length s → InnersRead q tags base at used xs
-    → Each (PayloadLies s (length tags)) xs
-inners-lie s b room (noneInside h) = tt
-inners-lie s {q} {tags} b room (nextInside {at = at} t v l e h u r) =
+inners-lie : (s : List ℕ) {q : List ℕ} {ground : Ground} {base at used : ℕ} {xs : List Payload} → Bytes q → base + length q ≤ length s → ground .total < 2 ^ 32
+    → InnersRead q ground base at used xs → Each (PayloadLies s (length (ground .tags))) xs
+inners-lie s b room fits (noneInside h) = tt
+inners-lie s {q} {ground} b room fits (nextInside {at = at} t v l e h u r) =
     let x = payload-within q at t v l e in
     let d = payload-laid q at t v l b e in
-    (record { starts = omega arith; ends = omega arith; named = name-fits tags t h (d .high) }, inners-lie s b room r)
+    (record { starts = omega arith; ends = omega arith; named = name-fits (ground .tags) t h (d .high); total = fits }, inners-lie s b room fits r)
 
-items-lie : (s : List ℕ) {tags : List ℕ} {at used : ℕ} {parts : List Part} {mark : Bool} → Bytes s → ItemsRead s tags at used parts mark
-    → Each (PartLies s (length tags)) parts
-items-lie s b (ended h) = tt
-items-lie s b (closed v e z c) = tt
-items-lie s {tags} b (nextPlain {at = at} t v l e h u r) =
+items-lie : (s : List ℕ) {ground : Ground} {at used : ℕ} {parts : List Part} {mark : Bool} → Bytes s → ground .total < 2 ^ 32
+    → ItemsRead s ground at used parts mark → Each (PartLies s (length (ground .tags))) parts
+items-lie s b fits (ended h) = tt
+items-lie s b fits (closed v e z c) = tt
+items-lie s {ground} b fits (nextPlain {at = at} t v l e h u r) =
     let x = payload-within s at t v l e in
     let d = payload-laid s at t v l b e in
-    (record { starts = x .later; ends = x .inside; named = name-fits tags t h (d .high) }, items-lie s b r)
-items-lie s {tags} b (nextSync {at = at} v l xs e h u n inner r) =
+    (record { starts = x .later; ends = x .inside; named = name-fits (ground .tags) t h (d .high); total = fits }, items-lie s b fits r)
+items-lie s {ground} b fits (nextSync {at = at} v l xs e h u n inner r) =
     let x = payload-within s at 2 v l e in
     let q = take (l - 4) (drop (v + 4) s) in
     let room : v + 4 + length q ≤ length s = simp (length-take, length-drop) (omega arith) in
     let head : HeadLies s (syncHead s at v l (length xs)) xs =
     record { starts = x .later; ends = x .inside; long = h; offset = big-lt s v 2 b; duration = big-lt s (v + 2) 2 b; count = refl; some = n } in
-    ((head, inners-lie s (part-bytes s (v + 4) (l - 4) b) room inner), items-lie s b r)
+    ((head, inners-lie s (part-bytes s (v + 4) (l - 4) b) room (sum-lt (ground .total) (extended (bigAt s v 2))) inner), items-lie s b fits r)
 
 -- labels that stand in the front of a list stand in it
 labels-lie : {c : List ℕ} {at : ℕ} {seen more : List Mapping} (s : List ℕ) (m : ℕ) → c ≡ take m s → MappingsRead c at seen more → Each (LabelLies s) more
@@ -168,7 +171,7 @@ reading-bounds s b r h =
       small = p .begins .small;
       offset = o .0;
       count = omega (arith, items-count (p .items) (omega arith));
-      parts = subst (λ (n : ℕ). Each (PartLies s n) (r .body .parts)) (length-map (r .mappings) (λ (m : Mapping). m .tag)) (items-lie s b (p .items));
+      parts = subst (λ (n : ℕ). Each (PartLies s n) (r .body .parts)) (length-map (r .mappings) (λ (m : Mapping). m .tag)) (items-lie s b (extended-lt (r .offset) (o .0)) (p .items));
       mapped = o .1;
       labels = o .2;
       entries = o .3;

@@ -41,7 +41,7 @@ closed-by d w (crc form) fits closing small =
     let x = configBytes (d .first) in
     let y = chunksBytes cs in
     let same : formBytes form 4 ≡ formBytes form (length c) = ap (formBytes form) (sym four) in
-    pack-laid (before ++ c) (element 3 form c) _ (λ tags. closes-crc (before ++ c) before tags form refl closing) cs (w .count) (w .items) (d .form) n (d .first)
+    pack-laid (before ++ c) (element 3 form c) _ (λ ground. closes-crc (before ++ c) before ground form refl closing) cs (w .count) (w .items) (d .form) n (d .first)
     (grouped key (formBytes (d .form) n) x y t f c ∙ ap (λ (g : List ℕ). key ++ (formBytes (d .form) n ++ (x ++ (y ++ (t ++ (g ++ c)))))) same)
     (counted x y t f c 4 four ∙ ap (λ (g : List ℕ). length (x ++ (y ++ (t ++ (g ++ c))))) same)
     (fits .0, omega (arith, fits .1, length-append t f)) small (w .opening)

@@ -7,15 +7,16 @@ use lib.ListN.{length, take, drop, length-append}
 use Rattle.pack.specs.Fixed.{itemCap, mappingCap}
 use Rattle.pack.specs.declared.Payload.{Payload}
 use Rattle.pack.specs.Config.{Mapping}
+use Rattle.pack.specs.Payloads.{Ground}
 use Rattle.pack.specs.Items.{Part, countOf}
 use Rattle.pack_layout.proofs.Accepts.{InnersRead, noneInside, nextInside, ItemsRead, ended, closed, nextPlain, nextSync}
 use Rattle.pack_layout.proofs.Opens.{MappingsRead, noneMapped, nextMapped}
 
-pub inners-count : {q tags : List ℕ} {base at used : ℕ} {xs : List Payload} → InnersRead q tags base at used xs → used ≤ itemCap → used + length xs ≤ itemCap
+pub inners-count : {q : List ℕ} {ground : Ground} {base at used : ℕ} {xs : List Payload} → InnersRead q ground base at used xs → used ≤ itemCap → used + length xs ≤ itemCap
 inners-count (noneInside h) u = omega arith
 inners-count (nextInside {xs = xs} t v l e h room r) u = let i = inners-count r (omega arith) in omega arith
 
-pub items-count : {s tags : List ℕ} {at used : ℕ} {parts : List Part} {mark : Bool} → ItemsRead s tags at used parts mark → used ≤ itemCap
+pub items-count : {s : List ℕ} {ground : Ground} {at used : ℕ} {parts : List Part} {mark : Bool} → ItemsRead s ground at used parts mark → used ≤ itemCap
     → used + countOf parts ≤ itemCap
 unfolding countOf
 items-count (ended h) u = omega arith

@@ -21,7 +21,7 @@ use Rattle.numbers.proofs.Big.{big-canonical, big-lt}
 use Rattle.crc.specs.Crc.{crcOf}
 use Rattle.pack.specs.declared.Found.the-variants.{Whole}
 use Rattle.pack.specs.declared.Payload.{Payload}
-use Rattle.pack.specs.Payloads.{payloadAt}
+use Rattle.pack.specs.Payloads.{payloadAt, Ground}
 use Rattle.pack.specs.Config.{Mapping, tagsOf, labelsOf, clashes}
 use Rattle.pack.specs.Items.{Part, countOf}
 use Rattle.pack.proofs.Payloads.{payload-within}
@@ -57,7 +57,7 @@ record ElementsDescribed (q : List ℕ) (at n : ℕ) : Type 0 where
   stands : drop at q ≡ elementsBytes elements
   count : length elements ≡ n
 
-inners-described : {q tags : List ℕ} {base at used : ℕ} {ps : List Payload} → Bytes q → InnersRead q tags base at used ps → ElementsDescribed q at (length ps)
+inners-described : {q : List ℕ} {ground : Ground} {base at used : ℕ} {ps : List Payload} → Bytes q → InnersRead q ground base at used ps → ElementsDescribed q at (length ps)
 unfolding elementsBytes
 inners-described {q} b (noneInside h) = record { elements = []; well = tt; stands = drop-of-length-le q h; count = refl }
 inners-described {q} b (nextInside {at = at} t v l e h u r) =
@@ -129,8 +129,8 @@ module _ (s : List ℕ) (b : Bytes s) where
       ∙ ap (λ (y : List ℕ). digits 256 2 (bigAt s (v + 2) 2) ++ y) (ap₂ (λ (m n : ℕ). take m (drop n s)) x (add-assoc v 2 2)))
 
   -- a Sync that is read
-  pub sync-described : {tags : List ℕ} {base used : ℕ} {ps : List Payload} (at v l : ℕ) → payloadAt s at ≡ Whole 2 v l → 4 ≤ l → 0 < length ps
-      → InnersRead (take (l - 4) (drop (v + 4) s)) tags base 0 used ps → SyncDescribed s at (v + l) (length ps)
+  pub sync-described : {ground : Ground} {base used : ℕ} {ps : List Payload} (at v l : ℕ) → payloadAt s at ≡ Whole 2 v l → 4 ≤ l → 0 < length ps
+      → InnersRead (take (l - 4) (drop (v + 4) s)) ground base 0 used ps → SyncDescribed s at (v + l) (length ps)
   sync-described at v l e h n inner =
       let d = payload-laid s at 2 v l b e in
       let x = payload-within s at 2 v l e in
@@ -155,7 +155,7 @@ module _ (s : List ℕ) (b : Bytes s) where
         count = j .count;
       }
 
-  pub items-described : {tags : List ℕ} {at used : ℕ} {parts : List Part} {mark : Bool} → ItemsRead s tags at used parts mark → ChunksDescribed s at (countOf parts)
+  pub items-described : {ground : Ground} {at used : ℕ} {parts : List Part} {mark : Bool} → ItemsRead s ground at used parts mark → ChunksDescribed s at (countOf parts)
   unfolding chunksBytes chunksCount countOf
   items-described (ended h) = record {
     chunks = [];

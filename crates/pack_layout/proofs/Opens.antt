@@ -28,7 +28,7 @@ use Rattle.pack.specs.declared.Found.the-variants.{Whole, Wrong}
 use Rattle.pack.specs.Payloads.{payloadAt}
 use Rattle.pack.specs.Config.{Mapping, tagsOf, labelsOf, clashes, mappingAt, mappingsFrom, configMaps}
 use Rattle.pack.specs.Items.{itemsFrom}
-use Rattle.pack.specs.Reading.{Read, Opening, valueStart, configOf, openingAt, readFrom, reading}
+use Rattle.pack.specs.Reading.{Read, Opening, valueStart, configOf, openingAt, packGround, readFrom, reading}
 use Rattle.pack.proofs.Turns.{mappings-end, mappings-turn, mapping-fine}
 use Rattle.refusals.proofs.Outcomes.{then-fine, then-was}
 use Rattle.pack_layout.proofs.Accepts.{ItemsRead, items-run, items-of}
@@ -215,14 +215,14 @@ pub record PackRead (s : List ℕ) (r : Read) : Type 0 where
   pub next : ℕ
   pub begins : StartRead s start
   pub opens : OpeningRead s start (r .offset) (r .mappings) next
-  pub items : ItemsRead s (tagsOf (r .mappings)) next 0 (r .body .parts) (r .body .crc)
+  pub items : ItemsRead s (packGround (r .offset) (r .mappings)) next 0 (r .body .parts) (r .body .crc)
 
 pub reading-run : (s : List ℕ) (r : Read) → PackRead s r → reading s ≡ fine r
 unfolding reading readFrom
 reading-run s r p =
     then-fine (λ at. andThen (openingAt s at) (readFrom s)) (start-run s (p .start) (p .begins))
     ∙ then-fine (readFrom s) (opening-run s (p .start) (p .opens))
-    ∙ then-fine (λ b. fine (record { offset = r .offset; mappings = r .mappings; body = b })) (items-run s (tagsOf (r .mappings)) (length s) (p .items) (omega arith))
+    ∙ then-fine (λ b. fine (record { offset = r .offset; mappings = r .mappings; body = b })) (items-run s (packGround (r .offset) (r .mappings)) (length s) (p .items) (omega arith))
 
 pub reading-of : (s : List ℕ) (r : Read) → Bytes s → reading s ≡ fine r → PackRead s r
 unfolding reading readFrom
@@ -230,7 +230,7 @@ reading-of s r b h =
     let i = then-was (valueStart s) (λ at. andThen (openingAt s at) (readFrom s)) h in
     let j = then-was (openingAt s (i .0)) (readFrom s) (i .2) in
     let o = j .0 in
-    let k = then-was (itemsFrom (length s) s (tagsOf (o .mappings)) (o .next) 0) (λ b. fine (record { offset = o .offset; mappings = o .mappings; body = b })) (j .2) in
+    let k = then-was (itemsFrom (length s) s (packGround (o .offset) (o .mappings)) (o .next) 0) (λ b. fine (record { offset = o .offset; mappings = o .mappings; body = b })) (j .2) in
     let z : _≡_ {A = Read} (record { offset = o .offset; mappings = o .mappings; body = k .0 }) r = (let x = k .2 in cc) in
     subst (PackRead s) z
     (record {
@@ -238,5 +238,5 @@ reading-of s r b h =
       next = o .next;
       begins = start-of s (i .0) (i .1);
       opens = opening-of s (i .0) o (j .1);
-      items = items-of s (tagsOf (o .mappings)) (length s) (o .next) 0 (k .0) b (omega arith) (k .1);
+      items = items-of s (packGround (o .offset) (o .mappings)) (length s) (o .next) 0 (k .0) b (omega arith) (k .1);
     })

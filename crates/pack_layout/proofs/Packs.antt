@@ -16,10 +16,10 @@ use Rattle.numbers.proofs.Lengths.{form-back}
 use Rattle.pack.specs.Fixed.{key, packCap, itemCap}
 use Rattle.pack.specs.Said.{SaidItem}
 use Rattle.pack.specs.declared.Found.the-variants.{Whole}
-use Rattle.pack.specs.Payloads.{payloadAt, nameOf}
+use Rattle.pack.specs.Payloads.{payloadAt, nameOf, Ground}
 use Rattle.pack.specs.Config.{Mapping, tagsOf, labelsOf}
 use Rattle.pack.specs.Items.{Part}
-use Rattle.pack.specs.Reading.{Read}
+use Rattle.pack.specs.Reading.{Read, packGround}
 use Rattle.pack.specs.Meaning.{meantName, meant}
 use Rattle.pack.proofs.Payloads.{payload-within}
 use Rattle.pack_layout.specs.Layout.{Chunk, Entry, ConfigLaid, noConfig, config, chunksBytes, entriesBytes, configBytes, entryFor, saidChunk, offsetLaid, entriesLaid}
@@ -63,7 +63,7 @@ start-laid s body form n e m fits small =
     }
 
 -- what begins with an item, or with what closes a pack, does not begin with a Config
-no-config : {s tags : List ℕ} {at used : ℕ} {parts : List Part} {mark : Bool} → ItemsRead s tags at used parts mark
+no-config : {s : List ℕ} {ground : Ground} {at used : ℕ} {parts : List Part} {mark : Bool} → ItemsRead s ground at used parts mark
     → (v l : ℕ) → payloadAt s at ≡ Whole 1 v l → ⊥
 no-config {s} {at = at} (ended h) v l e = let x = payload-within s at 1 v l e in omega arith
 no-config (closed w f z c) v l e = absurd-eq (let i = sym f ∙ e in cc)
@@ -117,12 +117,12 @@ names-mean mappings ms e t =
     ap₂ (λ (ls : List (List ℕ)) (ts : List ℕ). meantName ls (nameOf ts t)) (sym (labels-entries mappings)) (sym (tags-entries mappings))
     ∙ name-means (map entryOf mappings) t ∙ ap (λ (l : List Entry). entryFor l t) e
 
-module _ (s tail : List ℕ) (mark : Bool) (closes : (tags : List ℕ) (at used : ℕ) → drop at s ≡ tail → ItemsRead s tags at used [] mark)
+module _ (s tail : List ℕ) (mark : Bool) (closes : (ground : Ground) (at used : ℕ) → drop at s ≡ tail → ItemsRead s ground at used [] mark)
     (cs : List Chunk) (count : chunksCount cs ≤ itemCap) (well : WellChunks cs) where
-  items-at : (mappings : List Mapping) (ms : List Entry) → map entryOf mappings ≡ ms → (at : ℕ) → drop at s ≡ chunksBytes cs ++ tail
-      → ItemsLaid s (tagsOf mappings) (labelsOf mappings) ms at 0 cs mark
-  items-at mappings ms e at stands =
-      items-laid s (tagsOf mappings) (labelsOf mappings) ms (names-mean mappings ms e) tail mark (closes (tagsOf mappings)) cs at 0 stands (omega arith) well
+  items-at : (offset : ℕ) (mappings : List Mapping) (ms : List Entry) → map entryOf mappings ≡ ms → (at : ℕ) → drop at s ≡ chunksBytes cs ++ tail
+      → ItemsLaid s (packGround offset mappings) (labelsOf mappings) ms at 0 cs mark
+  items-at offset mappings ms e at stands =
+      items-laid s (packGround offset mappings) (labelsOf mappings) ms (names-mean mappings ms e) tail mark (closes (packGround offset mappings)) cs at 0 stands (omega arith) well
 
   opening-laid : (start : ℕ) (first : ConfigLaid) → drop start s ≡ configBytes first ++ (chunksBytes cs ++ tail) → WellConfig first
       → Opened s start first (chunksBytes cs ++ tail)
@@ -130,7 +130,7 @@ module _ (s tail : List ℕ) (mark : Bool) (closes : (tags : List ℕ) (at used 
   opening-laid start noConfig e w = record {
     mappings = [];
     next = start;
-    opens = noConfigRead (no-config (items-at [] [] refl start e .reads));
+    opens = noConfigRead (no-config (items-at 0 [] [] refl start e .reads));
     entries = refl;
     stands = e;
   }
@@ -142,7 +142,7 @@ module _ (s tail : List ℕ) (mark : Bool) (closes : (tags : List ℕ) (at used 
   pack-laid form n first e m fits small w =
       let a = start-laid s (configBytes first ++ (chunksBytes cs ++ tail)) form n e m fits small in
       let o = opening-laid (a .start) first (a .stands) w in
-      let i = items-at (o .mappings) (entriesLaid first) (o .entries) (o .next) (o .stands) in
+      let i = items-at (offsetLaid first) (o .mappings) (entriesLaid first) (o .entries) (o .next) (o .stands) in
       record {
         read = record { offset = offsetLaid first; mappings = o .mappings; body = record { parts = i .found; crc = mark } };
         reads = record { start = a .start; next = o .next; begins = a .begins; opens = o .opens; items = i .reads };

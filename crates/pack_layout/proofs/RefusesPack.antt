@@ -13,11 +13,11 @@ use Rattle.numbers.specs.Lengths.{formBytes}
 use Rattle.numbers.proofs.Lengths.{length-next}
 use Rattle.pack.specs.Fixed.{key}
 use Rattle.pack.specs.declared.Found.the-variants.{Whole}
-use Rattle.pack.specs.Payloads.{payloadAt}
+use Rattle.pack.specs.Payloads.{payloadAt, Ground}
 use Rattle.numbers.specs.Big.{bigAt}
-use Rattle.pack.specs.Config.{tagsOf, labelsOf}
+use Rattle.pack.specs.Config.{labelsOf}
 use Rattle.pack.specs.Items.{itemsFrom}
-use Rattle.pack.specs.Reading.{valueStart, configOf, openingAt, readFrom, reading}
+use Rattle.pack.specs.Reading.{valueStart, configOf, openingAt, packGround, readFrom, reading}
 use Rattle.pack_layout.specs.Layout.{Chunk, plain, group, ConfigLaid, noConfig, config, element, groupBytes, chunksBytes, configBytes, entriesLaid, offsetLaid}
 use Rattle.pack_layout.specs.Well.{WellChunks, WellConfig}
 use Rattle.pack_layout.specs.Refused.{Has, NoElement, NoItem, itemBroken, lateConfig, earlyCrc, itemTooMany, longCrc, wrongCrc, emptySync, NoConfig, Framed, Front, Refused, tooBig, tooShort, otherKey, packBadLength, packRunsOut, packTrails, inConfig, atItem, inSync}
@@ -107,7 +107,7 @@ module _ (s : List ℕ) (b : Bytes s) where
   -- items that are wrong after what is laid out well
   items-back : {used place : ℕ} {why : Refusal} (start content w : List ℕ) → Framed s start (content ++ w) → Front content used
       → (length content ≡ 0 → (at : ℕ) → drop at s ≡ w → (v l : ℕ) → payloadAt s at ≡ Whole 1 v l → ⊥)
-      → ((tags : List ℕ) (k at : ℕ) → drop at s ≡ w → length s ≤ at + k → itemsFrom k s tags at used ≡ refused why place) → reading s ≡ refused why place
+      → ((ground : Ground) (k at : ℕ) → drop at s ≡ w → length s ≤ at + k → itemsFrom k s ground at used ≡ refused why place) → reading s ≡ refused why place
   unfolding reading readFrom
   items-back {used} start content w f d none stop =
       let a = frame-read s start (content ++ w) f in
@@ -118,7 +118,8 @@ module _ (s : List ℕ) (b : Bytes s) where
       a .found .stands ∙ ap (λ (l : List ℕ). l ++ w) (d .is) ∙ append-assoc (configBytes first) (chunksBytes cs) w in
       let o = opening-back s at first cs w stands (d .opening) (d .items) (λ z e. none (ap length (d .is) ∙ z) at e) in
       let ms = o .mappings in
-      let stops = items-refused s (tagsOf ms) (labelsOf ms) (entriesLaid first) (names-mean ms (entriesLaid first) (o .entries)) w used (d .few) (stop (tagsOf ms)) cs
+      let ground = packGround (offsetLaid first) ms in
+      let stops = items-refused s ground (labelsOf ms) (entriesLaid first) (names-mean ms (entriesLaid first) (o .entries)) w used (d .few) (stop ground) cs
       (length s) (o .next) 0 (o .stands) (omega (arith, d .count)) (d .items) (omega arith) in
       then-fine (λ n. andThen (openingAt s n) (readFrom s)) (start-run s at (a .found .begins)) ∙ then-fine (readFrom s) (opening-run s at (o .opens))
       ∙ then-refused (λ body. fine (record { offset = offsetLaid first; mappings = ms; body = body })) stops
@@ -138,7 +139,7 @@ module _ (s : List ℕ) (b : Bytes s) where
   refused-back (packTrails h form v more fits m e) = start-back (trails-start s b h form v more fits m e)
   refused-back (inConfig start value c rest f h n) = config-back start value c rest f h n
   refused-back (atItem {used = used} start content w f d n) =
-      items-back start content w f d (λ z at e. none-first s at b n z e) (λ tags k at e g. no-item-refused s tags b k at used start content w n (f .is) e g)
+      items-back start content w f d (λ z at e. none-first s at b n z e) (λ ground k at e g. no-item-refused s ground b k at used start content w n (f .is) e g)
   refused-back (inSync {used = used} start content w rest o d xs z f laid oFits dFits well few h n) =
       items-back start content w f laid (λ y at e v l g. omega (arith, one-there s at h e v l g))
-      (λ tags k at e g. in-sync-refused s tags b k at used o d xs w z rest well few h n e g)
+      (λ ground k at e g. in-sync-refused s ground b k at used o d xs w z rest well few h n e g)

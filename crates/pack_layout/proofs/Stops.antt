@@ -21,8 +21,8 @@ use Rattle.pack.specs.declared.Found.{Found}
 use Rattle.pack.specs.declared.Found.the-variants.{Whole, Wrong}
 use Rattle.pack.specs.declared.Payload.{Payload}
 use Rattle.pack.specs.declared.Step.{Step}
-use Rattle.pack.specs.Payloads.{payloadAt, payload, innersFrom}
-use Rattle.pack.specs.Items.{Body, one, many, judged, itemAt, someInside, insideOf, syncHead, with, itemsFrom}
+use Rattle.pack.specs.Payloads.{payloadAt, Ground, payload, innersFrom}
+use Rattle.pack.specs.Items.{Body, one, many, judged, itemAt, someInside, syncGround, insideOf, syncHead, with, itemsFrom}
 use Rattle.pack.proofs.Payloads.{payload-within}
 use Rattle.pack_layout.specs.Layout.{Chunk, plain, group, element, groupBytes, chunksBytes}
 use Rattle.pack_layout.specs.Well.{WellChunk, WellChunks, chunksCount}
@@ -46,7 +46,7 @@ pub record ItemsStop (s : List ℕ) (at used : ℕ) (why : Refusal) (place : ℕ
   pub wrong : WrongAt s left (used + chunksCount chunks) why place
 
 -- a Sync in which nothing was read has no bytes there
-none-read : {q tags : List ℕ} {base at used : ℕ} → InnersRead q tags base at used [] → length q ≤ at
+none-read : {q : List ℕ} {ground : Ground} {base at used : ℕ} → InnersRead q ground base at used [] → length q ≤ at
 none-read (noneInside h) = h
 
 -- a refusal after what was read inside a Sync says that it was nothing
@@ -55,7 +55,7 @@ unfolding someInside
 none-inside at [] h = (refl, cc, cc)
 none-inside at (x ∷ xs) h = absurd-eq (cc)
 
-module _ (s tags : List ℕ) (b : Bytes s) where
+module _ (s : List ℕ) (ground : Ground) (b : Bytes s) where
   -- nothing is right from `at` on
   stop-here : {why : Refusal} {place : ℕ} (at used : ℕ) → used ≤ itemCap → WrongAt s (drop at s) used why place → ItemsStop s at used why place
   unfolding chunksBytes chunksCount
@@ -88,8 +88,8 @@ module _ (s tags : List ℕ) (b : Bytes s) where
       }
 
   -- an item where the reader stops, or after which it does
-  module _ (k at used : ℕ) {why : Refusal} {place : ℕ} (i : at < length s) (u : used ≤ itemCap) (h : itemsFrom (suc k) s tags at used ≡ refused why place)
-      (rest : (m n : ℕ) → at < m → n ≤ itemCap → itemsFrom k s tags m n ≡ refused why place → ItemsStop s m n why place) where
+  module _ (k at used : ℕ) {why : Refusal} {place : ℕ} (i : at < length s) (u : used ≤ itemCap) (h : itemsFrom (suc k) s ground at used ≡ refused why place)
+      (rest : (m n : ℕ) → at < m → n ≤ itemCap → itemsFrom k s ground m n ≡ refused why place → ItemsStop s m n why place) where
     -- after a payload
     stop-plain : (t v l : ℕ) → payloadAt s at ≡ Whole t v l → 3 < t → used < itemCap → ItemsStop s at used why place
     unfolding chunksBytes chunksCount
@@ -97,15 +97,15 @@ module _ (s tags : List ℕ) (b : Bytes s) where
         let x = payload-within s at t v l e in
         let d = element-described s at t v l b e above in
         let y = d .one in
-        let r = then-kept (itemsFrom k s tags (v + l) (used + 1)) (λ c. record { parts = one (payload tags at t v l) ∷ c .parts; crc = c .crc })
-        (sym (turn-plain s tags k at used i t v l e above room) ∙ h) in
+        let r = then-kept (itemsFrom k s ground (v + l) (used + 1)) (λ c. record { parts = one (payload ground at t v l) ∷ c .parts; crc = c .crc })
+        (sym (turn-plain s ground k at used i t v l e above room) ∙ h) in
         more-items at used (v + l) 1 (plain y) (element (y .tag) (y .form) (y .value)) (d .well) (d .stands) (λ cs. refl) (λ cs. refl)
         (rest (v + l) (used + 1) (omega arith) (omega arith) r)
 
     -- after a Sync
     stop-after : (v l : ℕ) (ps : List Payload) → payloadAt s at ≡ Whole 2 v l → 4 ≤ l → used < itemCap → 0 < length ps
-        → InnersRead (take (l - 4) (drop (v + 4) s)) tags (v + 4) 0 (used + 1) ps
-        → itemsFrom k s tags (v + l) (used + 1 + length ps) ≡ refused why place → ItemsStop s at used why place
+        → InnersRead (take (l - 4) (drop (v + 4) s)) (syncGround s ground v) (v + 4) 0 (used + 1) ps
+        → itemsFrom k s ground (v + l) (used + 1 + length ps) ≡ refused why place → ItemsStop s at used why place
     unfolding chunksBytes chunksCount
     stop-after v l ps e long room some inner r =
         let x = payload-within s at 2 v l e in
@@ -118,22 +118,22 @@ module _ (s tags : List ℕ) (b : Bytes s) where
 
     -- a Sync in which nothing was read
     stop-empty : (v l : ℕ) (ps : List Payload) → payloadAt s at ≡ Whole 2 v l → used < itemCap
-        → innersFrom l (take (l - 4) (drop (v + 4) s)) tags (v + 4) 0 (used + 1) ≡ fine ps → someInside at ps ≡ refused why place → ItemsStop s at used why place
+        → innersFrom l (take (l - 4) (drop (v + 4) s)) (syncGround s ground v) (v + 4) 0 (used + 1) ≡ fine ps → someInside at ps ≡ refused why place → ItemsStop s at used why place
     stop-empty v l ps e room inner none =
         let q = take (l - 4) (drop (v + 4) s) in
         let x = payload-within s at 2 v l e in
         let n = none-inside at ps none in
         let size : length q ≡ l - 4 = length-take-le (l - 4) (drop (v + 4) s) (simp length-drop (omega arith)) in
-        let empty = none-read (inners-of q tags (v + 4) l 0 (used + 1) [] (simp length-take (omega arith)) (inner ∙ ap fine (n .0))) in
+        let empty = none-read (inners-of q (syncGround s ground v) (v + 4) l 0 (used + 1) [] (simp length-take (omega arith)) (inner ∙ ap fine (n .0))) in
         let few : length (take l (drop v s)) ≤ 4 = omega (arith, value-length s b at 2 v l e, size, empty) in
         stop-item at used i u (n .1) (n .2) (λ start content is first. emptySync _ _ (has-laid s at 2 v l b e) room few)
 
     -- among the payloads of a Sync
-    stop-inside : (v l : ℕ) → payloadAt s at ≡ Whole 2 v l → 4 ≤ l → used < itemCap → insideOf s tags at v l used ≡ refused why place → ItemsStop s at used why place
+    stop-inside : (v l : ℕ) → payloadAt s at ≡ Whole 2 v l → 4 ≤ l → used < itemCap → insideOf s ground at v l used ≡ refused why place → ItemsStop s at used why place
     stop-inside v l e long room r =
         let q = take (l - 4) (drop (v + 4) s) in
-        then-stops (innersFrom l q tags (v + 4) 0 (used + 1)) (someInside at) r
-        (λ z. let w = inners-stop q tags (v + 4) (part-bytes s (v + 4) (l - 4) b) l 0 (used + 1) (simp length-take (omega arith)) (omega arith) z in
+        then-stops (innersFrom l q (syncGround s ground v) (v + 4) 0 (used + 1)) (someInside at) r
+        (λ z. let w = inners-stop q (syncGround s ground v) (v + 4) (part-bytes s (v + 4) (l - 4) b) l 0 (used + 1) (simp length-take (omega arith)) (omega arith) z in
         stop-here at used u (inGroup (sync-wrong s b at used v l e long w)))
         (λ ps inner none. stop-empty v l ps e room inner none)
 
@@ -141,16 +141,16 @@ module _ (s tags : List ℕ) (b : Bytes s) where
     stop-sync : (v l : ℕ) → payloadAt s at ≡ Whole 2 v l → 4 ≤ l → used < itemCap → ItemsStop s at used why place
     stop-sync v l e long room =
         let q = take (l - 4) (drop (v + 4) s) in
-        then-stops (insideOf s tags at v l used)
-        (λ xs. andThen (itemsFrom k s tags (v + l) (used + 1 + length xs)) (with (many (syncHead s at v l (length xs)) xs)))
-        (sym (turn-sync s tags k at used i v l e long room) ∙ h)
+        then-stops (insideOf s ground at v l used)
+        (λ xs. andThen (itemsFrom k s ground (v + l) (used + 1 + length xs)) (with (many (syncHead s at v l (length xs)) xs)))
+        (sym (turn-sync s ground k at used i v l e long room) ∙ h)
         (λ z. stop-inside v l e long room z)
-        (λ ps inside z. let j = then-was (innersFrom l q tags (v + 4) 0 (used + 1)) (someInside at) inside in
+        (λ ps inside z. let j = then-was (innersFrom l q (syncGround s ground v) (v + 4) 0 (used + 1)) (someInside at) inside in
         let n = some-of at (j .0) ps (j .2) in
-        let inner = inners-of q tags (v + 4) l 0 (used + 1) ps (simp length-take (omega arith)) (j .1 ∙ ap fine (n .1)) in
+        let inner = inners-of q (syncGround s ground v) (v + 4) l 0 (used + 1) ps (simp length-take (omega arith)) (j .1 ∙ ap fine (n .1)) in
         let c = many (syncHead s at v l (length ps)) ps in
         stop-after v l ps e long room (n .0) inner
-        (then-kept (itemsFrom k s tags (v + l) (used + 1 + length ps)) (λ body. record { parts = c ∷ body .parts; crc = body .crc }) z))
+        (then-kept (itemsFrom k s ground (v + l) (used + 1 + length ps)) (λ body. record { parts = c ∷ body .parts; crc = body .crc }) z))
 
     -- at a CRC of four bytes that ends the pack
     stop-crc : (v : ℕ) → payloadAt s at ≡ Whole 3 v 4 → v + 4 ≡ length s → ItemsStop s at used why place
@@ -181,7 +181,7 @@ module _ (s tags : List ℕ) (b : Bytes s) where
     stop-found (Whole t v l) e = stop-judged t v l (judged s used t v l) e refl (judged-of s used t v l)
 
   -- the items from `at` on, with enough steps left
-  pub items-stop : (k at used : ℕ) {why : Refusal} {place : ℕ} → length s ≤ at + k → used ≤ itemCap → itemsFrom k s tags at used ≡ refused why place
+  pub items-stop : (k at used : ℕ) {why : Refusal} {place : ℕ} → length s ≤ at + k → used ≤ itemCap → itemsFrom k s ground at used ≡ refused why place
       → ItemsStop s at used why place
   unfolding itemsFrom
   items-stop zero at used g u h = absurd-eq (cc)

@@ -16,7 +16,7 @@ use Rattle.pack.specs.Fixed.{itemCap}
 use Rattle.pack.specs.declared.Found.{Found}
 use Rattle.pack.specs.declared.Found.the-variants.{Whole, Wrong}
 use Rattle.pack.specs.declared.Payload.{Payload}
-use Rattle.pack.specs.Payloads.{payloadAt, innerAt, payload, innersFrom}
+use Rattle.pack.specs.Payloads.{payloadAt, innerAt, Ground, payload, innersFrom}
 use Rattle.pack.proofs.Payloads.{payload-within}
 use Rattle.pack_layout.specs.Layout.{Element, element, elementsBytes}
 use Rattle.pack_layout.specs.Well.{WellElements}
@@ -37,7 +37,7 @@ pub record InnersStop (q : List ℕ) (base at used : ℕ) (why : Refusal) (place
   pub wrong : NoInner left (used + length elements) why
   pub there : place ≡ base + (length q - length left)
 
-module _ (q tags : List ℕ) (base : ℕ) (b : Bytes q) where
+module _ (q : List ℕ) (ground : Ground) (base : ℕ) (b : Bytes q) where
   -- nothing is right from `at` on
   stop-inner : {why w : Refusal} {place : ℕ} (at used : ℕ) → at < length q → used ≤ itemCap → _≡_ {A = Outcome (List Payload)} (refused w (base + at)) (refused why place)
       → NoInner (drop at q) used w → InnersStop q base at used why place
@@ -78,7 +78,7 @@ module _ (q tags : List ℕ) (base : ℕ) (b : Bytes q) where
       }
 
   -- the payloads from `at` on, with enough steps left
-  pub inners-stop : (k at used : ℕ) {why : Refusal} {place : ℕ} → length q ≤ at + k → used ≤ itemCap → innersFrom k q tags base at used ≡ refused why place
+  pub inners-stop : (k at used : ℕ) {why : Refusal} {place : ℕ} → length q ≤ at + k → used ≤ itemCap → innersFrom k q ground base at used ≡ refused why place
       → InnersStop q base at used why place
   unfolding innersFrom innerAt
   inners-stop zero at used g u h = absurd-eq (cc)
@@ -87,7 +87,7 @@ module _ (q tags : List ℕ) (base : ℕ) (b : Bytes q) where
       (λ a. found (λ m n i r e. inners-stop k m n i r e) (payloadAt q at) refl a)
       (λ a. let i : fine [] ≡ refused why place = simp a at h in absurd-eq (cc))
     where
-      found : ((m n : ℕ) → length q ≤ m + k → n ≤ itemCap → innersFrom k q tags base m n ≡ refused why place → InnersStop q base m n why place)
+      found : ((m n : ℕ) → length q ≤ m + k → n ≤ itemCap → innersFrom k q ground base m n ≡ refused why place → InnersStop q base m n why place)
           → (f : Found) → payloadAt q at ≡ f → ltb at (length q) ≡ true → InnersStop q base at used why place
       found ih (Wrong w) e a =
           let i : at < length q = ltb-true _ _ a in
@@ -102,6 +102,6 @@ module _ (q tags : List ℕ) (base : ℕ) (b : Bytes q) where
           (λ y. let above : 3 < t = leb-false _ _ x in
           let room : used < itemCap = leb-false _ _ y in
           let next = payload-within q at t v l e in
-          let stops = then-kept (innersFrom k q tags base (v + l) (used + 1)) (λ ys. payload tags (base + at) t (base + v) l ∷ ys)
-          (sym (inner-turn q tags base k at used t v l i e above room) ∙ h) in
+          let stops = then-kept (innersFrom k q ground base (v + l) (used + 1)) (λ ys. payload ground (base + at) t (base + v) l ∷ ys)
+          (sym (inner-turn q ground base k at used t v l i e above room) ∙ h) in
           more-inner at used t v l e above (ih (v + l) (used + 1) (omega arith) (omega arith) stops)))

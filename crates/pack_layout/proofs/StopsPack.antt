@@ -17,9 +17,9 @@ use Rattle.pack.specs.Fixed.{key}
 use Rattle.pack.specs.declared.Found.{Found}
 use Rattle.pack.specs.declared.Found.the-variants.{Whole, Wrong}
 use Rattle.pack.specs.Payloads.{payloadAt}
-use Rattle.pack.specs.Config.{Mapping, tagsOf, configMaps}
+use Rattle.pack.specs.Config.{Mapping, configMaps}
 use Rattle.pack.specs.Items.{itemsFrom}
-use Rattle.pack.specs.Reading.{Opening, valueStart, openingAt, readFrom, reading}
+use Rattle.pack.specs.Reading.{Opening, valueStart, openingAt, packGround, readFrom, reading}
 use Rattle.pack.proofs.Payloads.{payload-within}
 use Rattle.numbers.specs.Big.{bigAt}
 use Rattle.pack_layout.specs.Layout.{chunksBytes, configBytes}
@@ -98,11 +98,11 @@ module _ (s : List ℕ) (b : Bytes s) (why : Refusal) (place : ℕ) where
 
   -- items that are refused, after what opens the pack
   items-says : (at : ℕ) (o : Opening) → StartRead s at → OpeningRead s at (o .offset) (o .mappings) (o .next)
-      → itemsFrom (length s) s (tagsOf (o .mappings)) (o .next) 0 ≡ refused why place → Refused s why place
+      → itemsFrom (length s) s (packGround (o .offset) (o .mappings)) (o .next) 0 ≡ refused why place → Refused s why place
   items-says at o r p h =
       let f = start-framed s at b r in
       let d = opening-described s b p in
-      let i = items-stop s (tagsOf (o .mappings)) b (length s) (o .next) 0 (omega arith) (omega arith) h in
+      let i = items-stop s (packGround (o .offset) (o .mappings)) b (length s) (o .next) 0 (omega arith) (omega arith) h in
       let x = configBytes (d .first) in
       let y = chunksBytes (i .chunks) in
       let w = i .left in
@@ -134,4 +134,4 @@ module _ (s : List ℕ) (b : Bytes s) (why : Refusal) (place : ℕ) where
       then-stops (openingAt s at) (readFrom s) z
       (λ y. config-says at r y)
       (λ o opens y. items-says at o r (opening-of s at o opens)
-      (then-kept (itemsFrom (length s) s (tagsOf (o .mappings)) (o .next) 0) (λ body. record { offset = o .offset; mappings = o .mappings; body = body }) y)))
+      (then-kept (itemsFrom (length s) s (packGround (o .offset) (o .mappings)) (o .next) 0) (λ body. record { offset = o .offset; mappings = o .mappings; body = body }) y)))

@@ -11,10 +11,11 @@ use Rattle.refusals.specs.declared.Refusal.{Refusal}
 use Rattle.refusals.specs.declared.Answer.{Answer}
 use Rattle.refusals.specs.declared.Answer.the-variants as A
 use Rattle.refusals.specs.Outcomes.{Outcome, fine, refused, andThen}
-use Rattle.numbers.specs.Big.{bigAt}
+use Rattle.numbers.specs.Big.{bigAt, extended}
 use Rattle.pack.specs.Config.{Mapping, tagsOf, configMaps}
+use Rattle.pack.specs.Payloads.{groundOf}
 use Rattle.pack.specs.Items.{Body, itemsFrom}
-use Rattle.pack.specs.Reading.{Read, valueStart, Opening, openingAt, readFrom, reading}
+use Rattle.pack.specs.Reading.{Read, valueStart, Opening, openingAt, packGround, readFrom, reading}
 use Rattle.pack.specs.Slots.{shown}
 use Rattle.refusals.proofs.Lent.{refused-was, done-was}
 use Rattle.refusals.proofs.Outcomes.{then-fine, then-refused}
@@ -111,10 +112,10 @@ module _ (s : List ℕ) {r : Opened} {tags places known : List ℕ} (g : Opens (
     from P k = told-from (opening s) P (sym e ∙ g .told) (λ x q a b d. k x q (subst (λ (o : Outcome Opening). Tables (opensWith o) tags places known) q (g .tables)) a b d)
 
     -- the opening that it is
-    pub opened-from : (x : Opening) × (opening s ≡ fine x) × Tables (x .mappings) tags places known × (m ≡ length (x .mappings)) × (n ≡ x .next)
+    pub opened-from : (x : Opening) × (opening s ≡ fine x) × Tables (x .mappings) tags places known × (f ≡ x .offset) × (m ≡ length (x .mappings)) × (n ≡ x .next)
     opened-from =
-        from ((x : Opening) × (opening s ≡ fine x) × Tables (x .mappings) tags places known × (m ≡ length (x .mappings)) × (n ≡ x .next))
-        (λ x q t a b d. (x, q, t, b, d))
+        from ((x : Opening) × (opening s ≡ fine x) × Tables (x .mappings) tags places known × (f ≡ x .offset) × (m ≡ length (x .mappings)) × (n ≡ x .next))
+        (λ x q t a b d. (x, q, t, a, b, d))
 
     pub opened-small : length s ≤ 32768
     opened-small = from (length s ≤ 32768) (λ x q t a b d. small s (valueStart s) refl q)
@@ -133,18 +134,18 @@ module _ (s : List ℕ) {r : Opened} {tags places known : List ℕ} (g : Opens (
           none,
         ))
 
-    whole-from : shownBody f m tags places (itemsFrom (length s) s (take m tags) n 0) ≡ shown (reading s)
+    whole-from : shownBody f m tags places (itemsFrom (length s) s (groundOf (take m tags) (extended f)) n 0) ≡ shown (reading s)
     unfolding readFrom
     whole-from =
-        from (shownBody f m tags places (itemsFrom (length s) s (take m tags) n 0) ≡ shown (reading s))
+        from (shownBody f m tags places (itemsFrom (length s) s (groundOf (take m tags) (extended f)) n 0) ≡ shown (reading s))
         (λ x q t a b d.
-        ap₂ (λ (y z : ℕ). shownBody y z tags places (itemsFrom (length s) s (take m tags) n 0)) a b
-        ∙ ap₂ (λ (u : List ℕ) (y : ℕ). shownBody (x .offset) (length (x .mappings)) tags places (itemsFrom (length s) s u y 0)) (tags-are x t b) d
-        ∙ shown-by x t (itemsFrom (length s) s (tagsOf (x .mappings)) (x .next) 0)
+        ap₂ (λ (y z : ℕ). shownBody y z tags places (itemsFrom (length s) s (groundOf (take m tags) (extended y)) n 0)) a b
+        ∙ ap₂ (λ (u : List ℕ) (y : ℕ). shownBody (x .offset) (length (x .mappings)) tags places (itemsFrom (length s) s (groundOf u (extended (x .offset))) y 0)) (tags-are x t b) d
+        ∙ shown-by x t (itemsFrom (length s) s (packGround (x .offset) (x .mappings)) (x .next) 0)
         ∙ ap shown (sym (reading-opens s ∙ then-fine (readFrom s) q)))
 
     -- the items are read, or refused and the arrays emptied
-    module _ {o : Outline} {slots : List ℕ} (b : BodyTold f m tags (itemsFrom (length s) s (take m tags) n 0) o slots) where
+    module _ {o : Outline} {slots : List ℕ} (b : BodyTold f m tags (itemsFrom (length s) s (groundOf (take m tags) (extended f)) n 0) o slots) where
       pub outlined-from : {k : ℕ} → o .answer ≡ A.Done k → Outlined s o slots tags places
       outlined-from {k} h = record { whole = b .full places k h ∙ whole-from; exact = b .exact }
 

@@ -9,7 +9,7 @@ use Rattle.refusals.specs.declared.Answer.{Answer}
 use Rattle.refusals.specs.declared.Answer.the-variants as A
 use Rattle.refusals.specs.Outcomes.{Outcome, fine, refused}
 use Rattle.pack.specs.Fixed.{itemCap}
-use Rattle.pack.specs.Payloads.{innersFrom}
+use Rattle.pack.specs.Payloads.{Ground, innersFrom}
 use Rattle.pack.specs.Config.{Mapping}
 use Rattle.pack.specs.Items.{Body, countOf}
 use Rattle.pack.specs.Reading.{Opening}
@@ -26,9 +26,9 @@ use Rattle.pack_read.specs.declared.Opened.{Opened}
 use Rattle.pack_read.specs.declared.Opened.the-variants as O
 
 -- the payloads of an inside q are told, and stand in the slots from `used` on
-pub record InsideRead (q tags : List ℕ) (base used : ℕ) (r : Answer) (before after : List ℕ) : Type 0 where
-  pub inside : InsideTold q tags base used r
-  pub full : (k : ℕ) (xs : List Payload) → length q ≤ k → innersFrom k q tags base 0 used ≡ fine xs
+pub record InsideRead (q : List ℕ) (ground : Ground) (base used : ℕ) (r : Answer) (before after : List ℕ) : Type 0 where
+  pub inside : InsideTold q ground base used r
+  pub full : (k : ℕ) (xs : List Payload) → length q ≤ k → innersFrom k q ground base 0 used ≡ fine xs
       → slotsIn after ≡ sets (slotsIn before) used (map (λ (x : Payload). slot (I.Inner x)) xs)
   pub exact : Exact after
 

@@ -3,13 +3,14 @@ ghost use mathlib.Core.Path.{_≡_};
 ghost use Prim.Native.Nat.{_+_, _≤_};
 ghost use lib.ListN.{length, take, replicate};
 ghost use Rattle.refusals.specs.Outcomes.{Outcome, andThen};
+ghost use Rattle.numbers.specs.Big.{bigAt, extended};
 ghost use Rattle.pack.specs.Items.{syncHead, itemsFrom};
 ghost use Rattle.pack.specs.Reading.{openingAt, valueStart, reading};
 ghost use Rattle.pack.specs.Slots.{blank, shown};
 ghost use Rattle.pack_read.specs.Shown.{outlineOf, Outlined};
 ghost use Rattle.pack_read.specs.Steps.{InsideRead, doneOf, BodyTold, Opens};
 ghost use Rattle.pack.specs.Fixed.{mappingCap};
-ghost use Rattle.pack.specs.Payloads.{payload};
+ghost use Rattle.pack.specs.Payloads.{groundOf, payload};
 ghost use Rattle.pack_config.specs.Tables.{Filled, Knows, Empty};
 ghost use Rattle.pack_slots.specs.Slots.{slotsIn, Exact};
 use pack::Found;
@@ -80,24 +81,26 @@ fn blanks() -> [Slot; 64]
         start: 0,
         value_start: 0,
         value_len: 0,
+        total: 0,
     };
     let i = Item::Single(x);
     let s = Slot { item: i };
     [s; 64]
 }
 
-// A payload by the tables of the mappings.
+// A payload by the tables of the mappings and its total offset.
 fn payload(
     tags: &[u32; 32],
     mapped: usize,
     known: &[u8; 128],
+    total: u32,
     tag: u32,
     start: usize,
     value_start: usize,
     value_len: usize,
 ) -> Payload
     requires { ⌜ Filled mapped (now tags) × Knows (take mapped (now tags)) (now known) × (start + («value_start» + «value_len») ≤ 65536) ⌝ }
-    ensures { λ r. ⌜ r ≡ payload (take mapped (now (tags .entry))) start tag «value_start» «value_len» ⌝ }
+    ensures { λ r. ⌜ r ≡ payload (groundOf (take mapped (now (tags .entry))) total) start tag «value_start» «value_len» ⌝ }
 {
     let name = pack_config::name_by(tags, mapped, known, tag);
     Payload {
@@ -105,36 +108,38 @@ fn payload(
         start: start as u32,
         value_start: value_start as u32,
         value_len: value_len as u32,
+        total,
     }
 }
 
-// A Sync, with so many payloads inside.
-fn head(s: &[u8], at: usize, value_start: usize, value_len: usize, inside: usize) -> Head
-    requires { ⌜ («value_start» + 4 ≤ length (now s)) × (at + («value_start» + «value_len») ≤ 65536) × (inside ≤ 64) ⌝ }
+// A Sync with its own offset, which was read before, and so many payloads inside.
+fn head(s: &[u8], at: usize, value_start: usize, value_len: usize, own: u16, inside: usize) -> Head
+    requires { ⌜ («value_start» + 4 ≤ length (now s)) × (at + («value_start» + «value_len») ≤ 65536) × (inside ≤ 64) × (own ≡ bigAt (now s) «value_start» 2) ⌝ }
     ensures { λ r. ⌜ r ≡ syncHead (now (s .entry)) at «value_start» «value_len» inside ⌝ }
 {
     Head {
         start: at as u32,
         value_start: value_start as u32,
         value_len: value_len as u32,
-        offset: numbers::be16(s, value_start),
+        offset: own,
         duration: numbers::be16(s, value_start + 2),
         inside: inside as u32,
     }
 }
 
-// The payloads of the inside of a Sync, which stands at `base` of the pack, into the slots from `used` on: how many slots are used with them.
+// The payloads of the inside of a Sync, which stands at `base` of the pack and gives them their total offset, into the slots from `used` on: how many slots are used with them.
 fn read_inside(
     q: &[u8],
     base: usize,
     used: usize,
+    total: u32,
     mapped: usize,
     tags: &[u32; 32],
     known: &[u8; 128],
     slots: &mut [u32; 512],
 ) -> Answer
     requires { ⌜ (used ≤ 64) × (base + length (now q) ≤ 32768) × Filled mapped (now tags) × Knows (take mapped (now tags)) (now known) × Exact (now slots) ⌝ }
-    ensures { λ r. ⌜ InsideRead (now (q .entry)) (take mapped (now (tags .entry))) base used r (now (slots .entry)) (now (slots .exit)) ⌝ }
+    ensures { λ r. ⌜ InsideRead (now (q .entry)) (groundOf (take mapped (now (tags .entry))) total) base used r (now (slots .entry)) (now (slots .exit)) ⌝ }
 {
     let mut k = used;
     let mut j: usize = 0;
@@ -153,6 +158,7 @@ fn read_inside(
                     tags,
                     mapped,
                     known,
+                    total,
                     tag,
                     base + j,
                     base + value_start,
@@ -179,8 +185,9 @@ fn read_items(
     slots: &mut [u32; 512],
 ) -> Outline
     requires { ⌜ (length (now s) ≤ 32768) × Filled mapped (now tags) × Knows (take mapped (now tags)) (now known) × (now slots ≡ replicate 512 0) ⌝ }
-    ensures { λ r. ⌜ BodyTold offset mapped (now (tags .entry)) (itemsFrom (length (now (s .entry))) (now (s .entry)) (take mapped (now (tags .entry))) from 0) r (now (slots .exit)) ⌝ }
+    ensures { λ r. ⌜ BodyTold offset mapped (now (tags .entry)) (itemsFrom (length (now (s .entry))) (now (s .entry)) (groundOf (take mapped (now (tags .entry))) (extended offset)) from 0) r (now (slots .exit)) ⌝ }
 {
+    let total = numbers::extended(offset);
     let mut n: usize = 0;
     let mut at = from;
     while at < s.len() {
@@ -200,7 +207,7 @@ fn read_items(
                 value_start,
                 value_len,
             } => {
-                let x = payload(tags, mapped, known, tag, at, value_start, value_len);
+                let x = payload(tags, mapped, known, total, tag, at, value_start, value_len);
                 let i = Item::Single(x);
                 pack_slots::put(&mut *slots, n, i);
                 n += 1;
@@ -213,10 +220,13 @@ fn read_items(
                 let base = value_start + 4;
                 let end = value_start + value_len;
                 let first = n + 1;
+                let own = numbers::be16(s, value_start);
+                let inner = numbers::sum32(total, own);
                 let inside = read_inside(
                     &s[base..end],
                     base,
                     first,
+                    inner,
                     mapped,
                     tags,
                     known,
@@ -230,7 +240,7 @@ fn read_items(
                         if k == first {
                             return stopped(Refusal::Sync, at);
                         }
-                        let h = head(s, at, value_start, value_len, k - first);
+                        let h = head(s, at, value_start, value_len, own, k - first);
                         let i = Item::Sync(h);
                         pack_slots::put(&mut *slots, n, i);
                         n = k;

@@ -1,4 +1,3 @@
 pub mod Laws
 pub mod Whole
-pub mod Signs
 pub mod Worked

@@ -1,10 +1,10 @@
 -- Trusted. The reading of a pack as rows of eight numbers, which is how C gets it (house).
 use mathlib.Core.List.{List, [], _∷_, _++_}
 use mathlib.Core.Bool.{Bool, cond}
-use Prim.Native.Nat.{ℕ, _+_}
-use lib.Dec.{ltb}
+use Prim.Native.Nat.{ℕ}
 use lib.ListN.{getD}
 use Rattle.refusals.specs.Outcomes.{Outcome, fine, andThen}
+use Rattle.numbers.specs.Big.{extended}
 use Rattle.pack.specs.Config.{placesOf}
 use Rattle.pack.specs.Items.{countOf}
 use Rattle.pack.specs.Reading.{Read, reading}
@@ -16,19 +16,15 @@ use Rattle.pack.specs.declared.Head.{Head}
 use Rattle.pack.specs.declared.Item.{Item}
 use Rattle.pack.specs.declared.Item.the-variants.{Single, Sync, Inner}
 
--- a signed number, of whose 16 bits n is the number, in two's complement of 32 bits: its sign fills the upper 16
-unfoldable pub extended : ℕ → ℕ
-extended n = cond (ltb n 0x8000) n (0xFFFF0000 + n)
-
 -- the row of the pack: its offset, 1 where a CRC stood, items and inner payloads together
 unfoldable pub packRow : ℕ → Bool → ℕ → List ℕ
 packRow o crc count = extended o ∷ cond crc 1 0 ∷ count ∷ 0 ∷ 0 ∷ 0 ∷ 0 ∷ 0 ∷ []
 
 -- the row of a payload: its form and start; its name, 0 and the tag, or 1 and where the label's 16 bytes stand in the pack; its value's start
--- and length. The label of the i-th mapping stands at the i-th of the places
-unfoldable pub payloadRow : List ℕ → ℕ → Name → ℕ → ℕ → ℕ → List ℕ
-payloadRow places form (Number t) start v l = form ∷ start ∷ 0 ∷ t ∷ v ∷ l ∷ 0 ∷ 0 ∷ []
-payloadRow places form (Label i) start v l = form ∷ start ∷ 1 ∷ getD places i 0 ∷ v ∷ l ∷ 0 ∷ 0 ∷ []
+-- and length; its total offset. The label of the i-th mapping stands at the i-th of the places
+unfoldable pub payloadRow : List ℕ → ℕ → Name → ℕ → ℕ → ℕ → ℕ → List ℕ
+payloadRow places form (Number t) start v l total = form ∷ start ∷ 0 ∷ t ∷ v ∷ l ∷ total ∷ 0 ∷ []
+payloadRow places form (Label i) start v l total = form ∷ start ∷ 1 ∷ getD places i 0 ∷ v ∷ l ∷ total ∷ 0 ∷ []
 
 -- the row of a Sync: form 1, its start; 2 and the payloads inside; its value's start and length; sample_offset and duration
 unfoldable pub syncRow : Head → List ℕ
@@ -36,9 +32,9 @@ syncRow h = 1 ∷ h .start ∷ 2 ∷ h .inside ∷ h .«value_start» ∷ h .«v
 
 -- an audio payload has form 0, one inside the Sync above it form 2
 unfoldable pub itemRow : List ℕ → Item → List ℕ
-itemRow places (Single x) = payloadRow places 0 (x .name) (x .start) (x .«value_start») (x .«value_len»)
+itemRow places (Single x) = payloadRow places 0 (x .name) (x .start) (x .«value_start») (x .«value_len») (x .total)
 itemRow places (Sync h) = syncRow h
-itemRow places (Inner x) = payloadRow places 2 (x .name) (x .start) (x .«value_start») (x .«value_len»)
+itemRow places (Inner x) = payloadRow places 2 (x .name) (x .start) (x .«value_start») (x .«value_len») (x .total)
 
 -- the numbers of a reading: the pack's row, then a row for each item and inner payload in order
 unfoldable pub rowsOf : Read → List ℕ

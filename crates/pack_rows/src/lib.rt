@@ -6,24 +6,13 @@ ghost use lib.ListN.{length};
 ghost use Rattle.refusals.specs.Lent.{within, Delivered};
 ghost use Rattle.pack.specs.Fits.{NameFits, ItemFits};
 ghost use Rattle.pack_slots.specs.Slots.{cellNumbers};
-ghost use Rattle.pack_rows.specs.Rows.{extended, packRow, payloadRow, itemRow, rowsRead};
+ghost use Rattle.pack_rows.specs.Rows.{packRow, payloadRow, itemRow, rowsRead};
 use pack::Item;
 use pack::Name;
 use pack::Payload;
 use pack_slots::Cell;
 use refusals::Answer;
 use refusals::Refusal;
-
-// A signed number of 16 bits in two's complement of 32.
-fn extended(n: u16) -> u32
-    ensures { λ r. ⌜ r ≡ extended n ⌝ }
-{
-    if n < 0x8000 {
-        n as u32
-    } else {
-        0xFFFF0000 + n as u32
-    }
-}
 
 // 1 where a CRC stood.
 fn mark(crc: bool) -> u32
@@ -38,7 +27,7 @@ fn pack_row(offset: u16, crc: bool, count: usize) -> Cell
     ensures { λ r. ⌜ cellNumbers r ≡ packRow offset crc count ⌝ }
 {
     Cell {
-        form: extended(offset),
+        form: numbers::extended(offset),
         start: mark(crc),
         named: count as u32,
         name: 0,
@@ -52,7 +41,7 @@ fn pack_row(offset: u16, crc: bool, count: usize) -> Cell
 // The row of a payload. A label is told by where it stands in the pack, which `places` says of each mapping.
 fn payload_row(places: &[u32; 32], form: u32, x: Payload) -> Cell
     requires { ⌜ NameFits (x .name) ⌝ }
-    ensures { λ r. ⌜ cellNumbers r ≡ payloadRow (now (places .entry)) form (x .name) (x .start) (x .«value_start») (x .«value_len») ⌝ }
+    ensures { λ r. ⌜ cellNumbers r ≡ payloadRow (now (places .entry)) form (x .name) (x .start) (x .«value_start») (x .«value_len») (x .total) ⌝ }
 {
     let name = x.name;
     match name {
@@ -63,7 +52,7 @@ fn payload_row(places: &[u32; 32], form: u32, x: Payload) -> Cell
             name: tag,
             value_start: x.value_start,
             value_len: x.value_len,
-            offset: 0,
+            offset: x.total,
             duration: 0,
         },
         Name::Label(i) => Cell {
@@ -73,7 +62,7 @@ fn payload_row(places: &[u32; 32], form: u32, x: Payload) -> Cell
             name: places[i as usize],
             value_start: x.value_start,
             value_len: x.value_len,
-            offset: 0,
+            offset: x.total,
             duration: 0,
         },
     }
@@ -94,7 +83,7 @@ fn item_row(places: &[u32; 32], item: Item) -> Cell
             name: h.inside,
             value_start: h.value_start,
             value_len: h.value_len,
-            offset: extended(h.offset),
+            offset: numbers::extended(h.offset),
             duration: h.duration as u32,
         },
     }

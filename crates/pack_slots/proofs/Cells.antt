@@ -15,8 +15,8 @@ use Rattle.pack_slots.specs.Slots.{nameForm, nameNumber, payloadNumbers,
 -- BY THE NAME
 
 pub cell-named : (form : ℕ) (x : Payload) (n : Name) → x .name ≡ n
-    → form ∷ x .start ∷ nameForm n ∷ nameNumber n ∷ x .«value_start» ∷ x .«value_len» ∷ 0 ∷ 0 ∷ [] ≡ payloadNumbers form x
-cell-named form x n e = ap (λ (m : Name). form ∷ x .start ∷ nameForm m ∷ nameNumber m ∷ x .«value_start» ∷ x .«value_len» ∷ 0 ∷ 0 ∷ []) (sym e)
+    → form ∷ x .start ∷ nameForm n ∷ nameNumber n ∷ x .«value_start» ∷ x .«value_len» ∷ x .total ∷ 0 ∷ [] ≡ payloadNumbers form x
+cell-named form x n e = ap (λ (m : Name). form ∷ x .start ∷ nameForm m ∷ nameNumber m ∷ x .«value_start» ∷ x .«value_len» ∷ x .total ∷ 0 ∷ []) (sym e)
 
 module _ (s : List ℕ) (at : ℕ) where
   pub name-label : getD s (at + 2) 0 ≡ 1 → Label (getD s (at + 3) 0) ≡ slotName s at

@@ -40,7 +40,7 @@ name-back (Label i) s e f = rw (e, f) refl
 
 payload-back : (form : ℕ) (x : Payload) → slotPayload (payloadNumbers form x) 0 ≡ x
 payload-back form x =
-    ap (λ (n : Name). record { name = n; start = x .start; «value_start» = x .«value_start»; «value_len» = x .«value_len» })
+    ap (λ (n : Name). record { name = n; start = x .start; «value_start» = x .«value_start»; «value_len» = x .«value_len»; total = x .total })
     (name-back (x .name) (payloadNumbers form x) refl refl)
 
 -- an item is what its numbers say

@@ -20,7 +20,7 @@ use Rattle.pack_slots.specs.declared.Cell.{Cell}
 abbrev pub cellNumbers : Cell → List ℕ
 cellNumbers r = r .form ∷ r .start ∷ r .named ∷ r .name ∷ r .«value_start» ∷ r .«value_len» ∷ r .offset ∷ r .duration ∷ []
 
--- the numbers of a payload: its form and start, 0 and its tag or 1 and its mapping, its value's start and length
+-- the numbers of a payload: its form and start, 0 and its tag or 1 and its mapping, its value's start and length, its total offset
 abbrev pub nameForm : Name → ℕ
 nameForm (Number t) = 0
 nameForm (Label i) = 1
@@ -30,7 +30,7 @@ nameNumber (Number t) = t
 nameNumber (Label i) = i
 
 abbrev pub payloadNumbers : ℕ → Payload → List ℕ
-payloadNumbers form x = form ∷ x .start ∷ nameForm (x .name) ∷ nameNumber (x .name) ∷ x .«value_start» ∷ x .«value_len» ∷ 0 ∷ 0 ∷ []
+payloadNumbers form x = form ∷ x .start ∷ nameForm (x .name) ∷ nameNumber (x .name) ∷ x .«value_start» ∷ x .«value_len» ∷ x .total ∷ 0 ∷ []
 
 -- those of an item
 unfoldable pub itemNumbers : Item → List ℕ
@@ -48,6 +48,7 @@ slotPayload s at = record {
   start = getD s (at + 1) 0;
   «value_start» = getD s (at + 4) 0;
   «value_len» = getD s (at + 5) 0;
+  total = getD s (at + 6) 0;
 }
 
 abbrev pub slotHead : List ℕ → ℕ → Head

@@ -13,7 +13,8 @@ use pack::Name;
 use pack::Payload;
 
 // A cell: its form (0 a payload, 1 a Sync, 2 a payload inside the Sync above), where it starts, what it is named by (0 a number, 1 a label,
-// 2 for a Sync), the tag or the mapping or how many payloads are inside, the stretch of its value, and a Sync's two numbers.
+// 2 for a Sync), the tag or the mapping or how many payloads are inside, the stretch of its value, a payload's total offset
+// or a Sync's own offset, and a Sync's duration.
 pub struct Cell {
     pub form: u32,
     pub start: u32,
@@ -53,7 +54,7 @@ fn payload_cell(form: u32, x: Payload) -> Cell
             name: tag,
             value_start: x.value_start,
             value_len: x.value_len,
-            offset: 0,
+            offset: x.total,
             duration: 0,
         },
         Name::Label(i) => Cell {
@@ -63,7 +64,7 @@ fn payload_cell(form: u32, x: Payload) -> Cell
             name: i,
             value_start: x.value_start,
             value_len: x.value_len,
-            offset: 0,
+            offset: x.total,
             duration: 0,
         },
     }
@@ -118,6 +119,7 @@ fn payload_at(slots: &[u32; 512], at: usize) -> Payload
         start: slots[at + 1],
         value_start: slots[at + 4],
         value_len: slots[at + 5],
+        total: slots[at + 6],
     }
 }
 

@@ -43,14 +43,14 @@ module _ (s places : List ℕ) where
 
 -- what fills up the places changes no line
 module _ (s places : List ℕ) (k : ℕ) where
-  name-line : (n : Name) (start len : ℕ) → namedLine s (places ++ replicate k 0) n start len ≡ namedLine s places n start len
+  name-line : (n : Name) (start len total : ℕ) → namedLine s (places ++ replicate k 0) n start len total ≡ namedLine s places n start len total
   unfolding namedLine
-  name-line (Label i) start len = cc (place-padded k places i)
-  name-line (Number t) start len = refl
+  name-line (Label i) start len total = cc (place-padded k places i)
+  name-line (Number t) start len total = refl
 
   item-line : (y : Item) → itemLine s (places ++ replicate k 0) y ≡ itemLine s places y
-  item-line (I.Single x) = name-line (x .name) (x .start) (x .«value_len»)
-  item-line (I.Inner x) = name-line (x .name) (x .start) (x .«value_len»)
+  item-line (I.Single x) = name-line (x .name) (x .start) (x .«value_len») (x .total)
+  item-line (I.Inner x) = name-line (x .name) (x .start) (x .«value_len») (x .total)
   item-line (I.Sync h) = refl
 
 -- labels that stand in the pack

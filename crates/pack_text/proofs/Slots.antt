@@ -15,14 +15,14 @@ use Rattle.pack_text.specs.Text.{line, labelFields, numberFields, namedL
 use Rattle.pack_text.specs.Slots.{itemLine, NameStands, ItemStands, SlotsStand}
 
 -- what a payload's line is, by its name
-module _ (s places : List ℕ) {n : Name} (start len : ℕ) where
+module _ (s places : List ℕ) {n : Name} (start len total : ℕ) where
   -- the label is lent as the stretch from its place p on to p + 16
   pub line-label : {i : ℕ} → n ≡ Label i
-      → let p = getD places i 0 in namedLine s places n start len ≡ line (labelFields start (stretch s p (p + 16 - p)) len)
+      → let p = getD places i 0 in namedLine s places n start len total ≡ line (labelFields start (stretch s p (p + 16 - p)) len total)
   unfolding namedLine
   line-label {i} e = let p = getD places i 0 in let z : p + 16 - p ≡ 16 = omega arith in rw (e, z)
 
-  pub line-number : {t : ℕ} → n ≡ Number t → namedLine s places n start len ≡ line (numberFields start t len)
+  pub line-number : {t : ℕ} → n ≡ Number t → namedLine s places n start len total ≡ line (numberFields start t len total)
   unfolding namedLine
   line-number e = rw e
 

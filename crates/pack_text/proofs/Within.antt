@@ -1,10 +1,11 @@
--- The listing of any pack fits 4,096 bytes: 64 lines of at most 51 bytes after a first line of at most 38, or one line of a refusal.
+-- The listing of any pack fits 4,096 bytes: 64 lines of at most 63 bytes after a first line of at most 43, or one line of a refusal.
 use mathlib.Core.Path.{_≡_, refl, ap}
 use mathlib.Core.Bool.{Bool, true, false}
 use mathlib.Core.Logic.{⊎-elim}
 use mathlib.Core.List.{List, [], _∷_}
 use Prim.Native.Nat.{ℕ, _-_, _*_, _^_, _<_, _≤_}
 use native.Mathlib.Omega.{arith}
+use lib.IntN.{ℤ}
 use lib.ListN.{length, getD, drop, length-append, length-take}
 use Rattle.runs.specs.Digits.{Bytes}
 use Rattle.runs.specs.Over.{Wrote}
@@ -13,7 +14,8 @@ use Rattle.runs.proofs.Cases.{lt-or-ge}
 use Rattle.runs.proofs.Over.{wrote-length}
 use Rattle.refusals.specs.Refusals.{numberOf}
 use Rattle.refusals.specs.Outcomes.{Outcome, fine, refused}
-use Rattle.numbers.specs.Big.{signed}
+use Rattle.numbers.specs.Big.{signed, signed32, extended}
+use Rattle.numbers.proofs.Signs.{extended-exact, extended-lt}
 use Rattle.pack.specs.Fixed.{packCap}
 use Rattle.pack.specs.Config.{placesOf}
 use Rattle.pack.specs.Items.{Part, countOf}
@@ -38,62 +40,68 @@ use Rattle.figures.proofs.Figures.{length-decimal, size-most, decimal-short, si
 decimal-most : (n : ℕ) → length (decimal n) ≤ 20
 decimal-most n = omega (arith, length-decimal n, size-most n)
 
-integer-short : (n : ℕ) → n < 65536 → length (integer (signed n)) ≤ 6
+integer-short : (n : ℕ) → n < 2 ^ 32 → length (integer (signed32 n)) ≤ 11
 integer-short n h =
     ⊎-elim
-    (λ (l : n < 32768). omega (arith, ap length (signed-low n l), decimal-short 5 n (omega arith) (omega arith)))
-    (λ (l : 32768 ≤ n). omega (arith, ap length (signed-high n l h), decimal-short 5 (65536 - n) (omega arith) (omega arith)))
-    (lt-or-ge n 32768)
+    (λ (l : n < 2 ^ 31). omega (arith, ap length (signed-low n l), decimal-short 10 n (omega arith) (omega arith)))
+    (λ (l : 2 ^ 31 ≤ n). omega (arith, ap length (signed-high n l h), decimal-short 10 (2 ^ 32 - n) (omega arith) (omega arith)))
+    (lt-or-ge n (2 ^ 31))
 
-pack-short : (o count : ℕ) (crc : Bool) → o < 65536 → length (line (packFields o count crc)) ≤ 38
-pack-short o count true h = omega (arith, line-size (packFields o count true) (omega arith), integer-short o h, decimal-most count)
-pack-short o count false h = omega (arith, line-size (packFields o count false) (omega arith), integer-short o h, decimal-most count)
+-- an offset of 16 bits is extended to 32
+offset-short : (n : ℕ) → n < 65536 → length (integer (signed n)) ≤ 11
+offset-short n h = omega (arith, ap (λ (z : ℤ). length (integer z)) (extended-exact n h), integer-short (extended n) (extended-lt n h))
+
+pack-short : (o count : ℕ) (crc : Bool) → o < 65536 → length (line (packFields o count crc)) ≤ 43
+pack-short o count true h = omega (arith, line-size (packFields o count true) (omega arith), offset-short o h, decimal-most count)
+pack-short o count false h = omega (arith, line-size (packFields o count false) (omega arith), offset-short o h, decimal-most count)
 
 refused-short : (n place : ℕ) → length (line (refusedFields n place)) ≤ 50
 refused-short n place = omega (arith, line-size (refusedFields n place) (omega arith), decimal-most n, decimal-most place)
 
 module _ (s places : List ℕ) (mapped : ℕ) (small : length s ≤ packCap) where
-  named-short : (n : Name) (start len : ℕ) → start < 10 ^ 5 → len < 10 ^ 5 → NameFits mapped n → length (namedLine s places n start len) ≤ 51
+  named-short : (n : Name) (start len total : ℕ) → start < 10 ^ 5 → len < 10 ^ 5 → total < 2 ^ 32 → NameFits mapped n → length (namedLine s places n start len total) ≤ 63
   unfolding namedLine
-  named-short (Label i) start len a b h =
+  named-short (Label i) start len total a b c h =
       let p = getD places i 0 in
       omega (
         arith,
-        line-size (labelFields start (stretch s p 16) len) (omega arith),
+        line-size (labelFields start (stretch s p 16) len total) (omega arith),
         decimal-short 5 start (omega arith) a,
         decimal-short 5 len (omega arith) b,
+        integer-short total c,
         length-hex (stretch s p 16),
         length-take 16 (drop p s),
       )
-  named-short (Number t) start len a b h =
+  named-short (Number t) start len total a b c h =
       omega (
         arith,
-        line-size (numberFields start t len) (omega arith),
+        line-size (numberFields start t len total) (omega arith),
         decimal-short 5 start (omega arith) a,
         decimal-short 5 len (omega arith) b,
+        integer-short total c,
         decimal-short 9 t (omega arith) (omega arith),
       )
 
-  item-short : (y : Item) → ItemLies s mapped y → length (itemLine s places y) ≤ 51
-  item-short (Single x) h = named-short (x .name) (x .start) (x .«value_len») (omega arith) (omega arith) (h .named)
-  item-short (Inner x) h = named-short (x .name) (x .start) (x .«value_len») (omega arith) (omega arith) (h .named)
+  item-short : (y : Item) → ItemLies s mapped y → length (itemLine s places y) ≤ 63
+  item-short (Single x) h = named-short (x .name) (x .start) (x .«value_len») (x .total) (omega arith) (omega arith) (h .total) (h .named)
+  item-short (Inner x) h = named-short (x .name) (x .start) (x .«value_len») (x .total) (omega arith) (omega arith) (h .total) (h .named)
   item-short (Sync y) h =
       omega (
         arith,
         line-size (syncFields y) (omega arith),
         decimal-short 5 (y .start) (omega arith) (omega arith),
-        integer-short (y .offset) (h .1 .offset),
+        offset-short (y .offset) (h .1 .offset),
         decimal-short 5 (y .duration) (omega arith) (omega arith),
         decimal-most (y .inside),
       )
 
-  slots-short : (ws : List Slot) → Each (λ (w : Slot). ItemLies s mapped (w .item)) ws → length (slotLines s places ws) ≤ 51 * length ws
+  slots-short : (ws : List Slot) → Each (λ (w : Slot). ItemLies s mapped (w .item)) ws → length (slotLines s places ws) ≤ 63 * length ws
   unfolding made
   slots-short [] h = omega arith
   slots-short (w ∷ ws) h =
       omega (arith, length-append (itemLine s places (w .item)) (slotLines s places ws), item-short (w .item) (h .0), slots-short ws (h .1))
 
-  parts-short : (ps : List Part) → Each (PartLies s mapped) ps → length (partLines s places ps) ≤ 51 * countOf ps
+  parts-short : (ps : List Part) → Each (PartLies s mapped) ps → length (partLines s places ps) ≤ 63 * countOf ps
   parts-short ps h = omega (arith, slots-short (slots ps) (slots-lie s mapped ps h), ap length (lines-of s places ps), slots-count ps)
 
 pub outcome-fits : (s : List ℕ) → Bytes s → (o : Outcome Read) → reading s ≡ o → length (listing s o) ≤ 4096

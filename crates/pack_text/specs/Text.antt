@@ -5,7 +5,7 @@ use Prim.Native.Nat.{ℕ}
 use lib.ListN.{getD}
 use Rattle.refusals.specs.Refusals.{numberOf}
 use Rattle.refusals.specs.Outcomes.{Outcome, fine, refused}
-use Rattle.numbers.specs.Big.{signed}
+use Rattle.numbers.specs.Big.{signed, signed32}
 use Rattle.pack.specs.Config.{placesOf}
 use Rattle.pack.specs.Items.{Part, one, many, countOf}
 use Rattle.pack.specs.Reading.{Read}
@@ -54,21 +54,21 @@ packFields o count crc = packWord ∷ integer (signed o) ∷ decimal count ∷ c
 abbrev pub syncFields : Head → List (List ℕ)
 syncFields h = syncWord ∷ decimal (h .start) ∷ integer (signed (h .offset)) ∷ decimal (h .duration) ∷ decimal (h .inside) ∷ []
 
--- a payload known by its tag number: start, tag, value length
-abbrev pub numberFields : ℕ → ℕ → ℕ → List (List ℕ)
-numberFields start tag len = numberWord ∷ decimal start ∷ decimal tag ∷ decimal len ∷ []
+-- a payload known by its tag number: start, tag, value length, total offset, of whose 32 bits total is the number
+abbrev pub numberFields : ℕ → ℕ → ℕ → ℕ → List (List ℕ)
+numberFields start tag len total = numberWord ∷ decimal start ∷ decimal tag ∷ decimal len ∷ integer (signed32 total) ∷ []
 
--- a payload known by its label: start, the label's 16 bytes in hex, value length
-abbrev pub labelFields : ℕ → List ℕ → ℕ → List (List ℕ)
-labelFields start label len = labelWord ∷ decimal start ∷ hex label ∷ decimal len ∷ []
+-- a payload known by its label: start, the label's 16 bytes in hex, value length, total offset
+abbrev pub labelFields : ℕ → List ℕ → ℕ → ℕ → List (List ℕ)
+labelFields start label len total = labelWord ∷ decimal start ∷ hex label ∷ decimal len ∷ integer (signed32 total) ∷ []
 
 -- a payload by its name; the label of the i-th mapping is the 16 bytes of the pack s at the i-th of the places
-unfoldable pub namedLine : List ℕ → List ℕ → Name → ℕ → ℕ → List ℕ
-namedLine s places (Label i) start len = line (labelFields start (stretch s (getD places i 0) 16) len)
-namedLine s places (Number t) start len = line (numberFields start t len)
+unfoldable pub namedLine : List ℕ → List ℕ → Name → ℕ → ℕ → ℕ → List ℕ
+namedLine s places (Label i) start len total = line (labelFields start (stretch s (getD places i 0) 16) len total)
+namedLine s places (Number t) start len total = line (numberFields start t len total)
 
 abbrev pub payloadLine : List ℕ → List ℕ → Payload → List ℕ
-payloadLine s places x = namedLine s places (x .name) (x .start) (x .«value_len»)
+payloadLine s places x = namedLine s places (x .name) (x .start) (x .«value_len») (x .total)
 
 unfoldable pub payloadLines : List ℕ → List ℕ → List Payload → List ℕ
 payloadLines s places [] = []

@@ -48,25 +48,27 @@ fn put_sync(out: &mut [u8], at: usize, head: Head) -> usize
 }
 
 // The line of a payload that is known by its tag number.
-fn put_number(out: &mut [u8], at: usize, start: u32, tag: u32, len: u32) -> usize
-    requires { ⌜ at + sizes (numberFields start tag len) ≤ length (now out) ⌝ }
-    ensures { λ r. ⌜ Wrote (now (out .entry)) at (line (numberFields start tag len)) r (now (out .exit)) ⌝ }
+fn put_number(out: &mut [u8], at: usize, start: u32, tag: u32, len: u32, total: u32) -> usize
+    requires { ⌜ at + sizes (numberFields start tag len total) ≤ length (now out) ⌝ }
+    ensures { λ r. ⌜ Wrote (now (out .entry)) at (line (numberFields start tag len total)) r (now (out .exit)) ⌝ }
 {
     let start_at = figures::put_word(out, at, b"number", b' ');
     let tag_at = figures::put_decimal(out, start_at, start as u64, b' ');
     let len_at = figures::put_decimal(out, tag_at, tag as u64, b' ');
-    figures::put_decimal(out, len_at, len as u64, b'\n')
+    let total_at = figures::put_decimal(out, len_at, len as u64, b' ');
+    figures::put_signed32(out, total_at, total, b'\n')
 }
 
 // The line of a payload that is known by its label.
-fn put_label(out: &mut [u8], at: usize, start: u32, label: &[u8], len: u32) -> usize
-    requires { ⌜ at + sizes (labelFields start (now label) len) ≤ length (now out) ⌝ }
-    ensures { λ r. ⌜ Wrote (now (out .entry)) at (line (labelFields start (now (label .entry)) len)) r (now (out .exit)) ⌝ }
+fn put_label(out: &mut [u8], at: usize, start: u32, label: &[u8], len: u32, total: u32) -> usize
+    requires { ⌜ at + sizes (labelFields start (now label) len total) ≤ length (now out) ⌝ }
+    ensures { λ r. ⌜ Wrote (now (out .entry)) at (line (labelFields start (now (label .entry)) len total)) r (now (out .exit)) ⌝ }
 {
     let start_at = figures::put_word(out, at, b"label", b' ');
     let label_at = figures::put_decimal(out, start_at, start as u64, b' ');
     let len_at = figures::put_hex(out, label_at, label, b' ');
-    figures::put_decimal(out, len_at, len as u64, b'\n')
+    let total_at = figures::put_decimal(out, len_at, len as u64, b' ');
+    figures::put_signed32(out, total_at, total, b'\n')
 }
 
 // The line of a refusal.
@@ -87,13 +89,14 @@ fn put_payload(out: &mut [u8], at: usize, pack: &[u8], places: [u32; 32], payloa
     let name = payload.name;
     let start = payload.start;
     let len = payload.value_len;
+    let total = payload.total;
     match name {
         Name::Label(i) => {
             let from = places[i as usize] as usize;
             let to = from + 16;
-            put_label(out, at, start, &pack[from..to], len)
+            put_label(out, at, start, &pack[from..to], len, total)
         }
-        Name::Number(tag) => put_number(out, at, start, tag, len),
+        Name::Number(tag) => put_number(out, at, start, tag, len, total),
     }
 }
 

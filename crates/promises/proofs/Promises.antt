@@ -30,11 +30,12 @@ use Rattle.crc.specs.Crc.{crcOf}
 use Rattle.crc.proofs.Serial as serial
 use Rattle.pack.specs.Fixed.{packCap}
 use Rattle.pack.specs.Said.{SaidName, label, number, SaidItem, Said, names}
-use Rattle.pack.specs.Payloads.{innersFrom}
+use Rattle.pack.specs.Payloads.{Ground, innersFrom}
 use Rattle.pack.specs.Items.{itemsFrom}
 use Rattle.pack.specs.Config.{mappingsFrom}
 use Rattle.pack.specs.Reading.{Read, reading, checked}
 use Rattle.pack.specs.Meaning.{meant}
+use Rattle.pack.specs.Totals.{totals, carriedTotals}
 use Rattle.pack.proofs.Fuel as fuel
 use Rattle.pack_text.specs.Text.{listing}
 use Rattle.pack_text.proofs.One as listings
@@ -45,6 +46,7 @@ use Rattle.pack_layout.specs.Refused.{Refused}
 use Rattle.pack_layout.proofs.Complete as complete
 use Rattle.pack_layout.proofs.Sound as sound
 use Rattle.pack_layout.proofs.Refusals as refused-packs
+use Rattle.pack_layout.proofs.Totals as sums
 use Rattle.runs.specs.Those.{those, Each}
 use Rattle.runs.proofs.Those.{those-pass}
 use Rattle.runs.proofs.Cases.{one}
@@ -70,7 +72,7 @@ use Rattle.pmd.specs.Gain.{levelOf}
 use Rattle.pmd.proofs.RoundTrips as trips
 use Rattle.pmd.proofs.Levels as levels
 use Rattle.ballastwren.specs.Told.{toldOf, toldFoundOf, toldGainOf, BwRead, BwScrub, BwPmdRead, BwPmdWrite}
-use Rattle.ballastwren.specs.Looked.{FirstTold, PartTold, absentTold}
+use Rattle.ballastwren.specs.Looked.{FirstTold, TotalTold, PartTold, absentTold}
 use Rattle.ballastwren.specs.Version.{version}
 use Rattle.ballastwren.specs.declared.Told.{Told}
 use Rattle.ballastwren.specs.declared.ToldFound.{ToldFound}
@@ -132,9 +134,9 @@ reading-complete = complete.reading-complete
 
 -- Reading goes through the items of a pack, the payloads inside a Sync and the mappings of a Config by steps, of which it has one for each byte there is.
 -- Those are enough: with any more, each comes to the same.
-pub fuel-enough : (s tags : List ℕ) (more at v l used : ℕ)
-    → (length s ≤ more → itemsFrom more s tags at used ≡ itemsFrom (length s) s tags at used)
-    × (l ≤ more → innersFrom more (take (l - 4) (drop (v + 4) s)) tags (v + 4) 0 used ≡ innersFrom l (take (l - 4) (drop (v + 4) s)) tags (v + 4) 0 used)
+pub fuel-enough : (s : List ℕ) (ground : Ground) (more at v l used : ℕ)
+    → (length s ≤ more → itemsFrom more s ground at used ≡ itemsFrom (length s) s ground at used)
+    × (l ≤ more → innersFrom more (take (l - 4) (drop (v + 4) s)) ground (v + 4) 0 used ≡ innersFrom l (take (l - 4) (drop (v + 4) s)) ground (v + 4) 0 used)
     × (l ≤ more → mappingsFrom more (take (v + l) s) at [] (v + 2) ≡ mappingsFrom l (take (v + l) s) at [] (v + 2))
 fuel-enough = fuel.fuel-enough
 
@@ -142,6 +144,11 @@ fuel-enough = fuel.fuel-enough
 -- which is the very stretch that the reading speaks of; so does every Sync with its two numbers, and every label of a mapping.
 pub payloads-stand : (s : List ℕ) → Bytes s → (r : Read) → reading s ≡ fine r → AllStand s r
 payloads-stand = starts.all-stand
+
+-- Each payload of an accepted pack carries its total offset, exactly: as signed numbers the pack's offset plus that of the Sync that it stands in, and
+-- outside a Sync the pack's alone. `bw_read` tells it as number 6 of the payload's row, the listing as the last field of its line.
+pub totals-exact : (s : List ℕ) → Bytes s → (r : Read) → reading s ≡ fine r → carriedTotals s r ≡ totals (meant s r)
+totals-exact = sums.totals-exact
 
 -- A pack is refused, for a reason and at a place, exactly when it is wrong there in that way, in the words of the layout: what stands before is laid out
 -- well, and what stands there is no element, item, Config or payload of a Sync, as `Refused` says it of each reason.
@@ -299,7 +306,7 @@ rest-cleared sheet s {before} {after} {a} x done =
     ap (drop (a .value)) (x .run) ∙ scrubbing.done-rest before (scrubbed sheet s (length before)) (a .value) (edge.answer-done x done)
 
 -- LOOKING UP A LABEL
--- `bw_lookup`, handed two packs and a label l, tells C the four numbers `toldFoundOf (lookedUp main backup l)`. `value` of crates/lookup, handed the same,
+-- `bw_lookup`, handed two packs and a label l, tells C the five numbers `toldFoundOf (lookedUp main backup l)`. `value` of crates/lookup, handed the same,
 -- returns the part `partOf main backup (lookedUp main backup l)` of one of the packs, both of which the caller lends it for one lifetime. A value was found
 -- exactly where the first number is 0.
 
@@ -314,6 +321,11 @@ module _ (main backup l : List ℕ) {a : ToldFound} (x : a ≡ toldFoundOf (look
   pub lookup-first : Bytes main → Bytes backup → a .number ≡ 0 → FirstTold main backup l a
   lookup-first m b = lookups.lookup-first main backup l m b x
 
+  -- The total offset that is told is that of the same payload: as signed numbers, its pack's offset plus that of the Sync that it stands in, and outside a
+  -- Sync its pack's alone.
+  pub lookup-total : Bytes main → Bytes backup → a .number ≡ 0 → TotalTold main backup l a
+  lookup-total m b = lookups.lookup-total main backup l m b x
+
   -- The part that is returned is the very stretch that is told, and lies in the pack that is told. Where none is told, the start is 0 and no byte is
   -- returned.
   pub lookup-stretch : {v : List ℕ} → Bytes main → Bytes backup → v ≡ partOf main backup (lookedUp main backup l)
@@ -322,10 +334,10 @@ module _ (main backup l : List ℕ) {a : ToldFound} (x : a ≡ toldFoundOf (look
 
   -- Both packs are checked first, main before backup, also where main has the label: what `bw_check` tells of a main that it refuses is told with the mark
   -- 1, else what it tells of a backup that it refuses with the mark 2. Where it accepts both, a value is found, or ABSENT is told: number 20, place 0,
-  -- neither pack, no stretch.
+  -- neither pack, no stretch, no total offset.
   pub lookup-refused : {c d : Told} → c ≡ toldOf (checked main) → d ≡ toldOf (checked backup)
-      → ((c .number ≡ 0 → ⊥) → a ≡ record { number = c .number; value = c .value; from = 1; start = 0 })
-      × (c .number ≡ 0 → (d .number ≡ 0 → ⊥) → a ≡ record { number = d .number; value = d .value; from = 2; start = 0 })
+      → ((c .number ≡ 0 → ⊥) → a ≡ record { number = c .number; value = c .value; from = 1; start = 0; total = pos 0 })
+      × (c .number ≡ 0 → (d .number ≡ 0 → ⊥) → a ≡ record { number = d .number; value = d .value; from = 2; start = 0; total = pos 0 })
       × (c .number ≡ 0 → d .number ≡ 0 → (a .number ≡ 0) ⊎ (a ≡ absentTold))
   lookup-refused = lookups.lookup-refused main backup l x
 

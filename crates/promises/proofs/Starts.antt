@@ -15,7 +15,7 @@ use Rattle.runs.proofs.Those.{each-map}
 use Rattle.refusals.specs.Outcomes.{fine}
 use Rattle.pack.specs.declared.Payload.{Payload}
 use Rattle.pack.specs.declared.Found.the-variants.{Whole}
-use Rattle.pack.specs.Payloads.{payloadAt}
+use Rattle.pack.specs.Payloads.{payloadAt, Ground}
 use Rattle.pack.specs.Items.{Part}
 use Rattle.pack.specs.Reading.{Read, reading}
 use Rattle.pack.specs.Meaning.{stretch, stretchIn}
@@ -72,12 +72,12 @@ module _ (s : List ℕ) (base n : ℕ) (bytes : Bytes s) where
       let long : length part ≤ length s - base = simp (length-take, length-drop) (omega arith) in
       omega (arith, w .later, w .inside)
 
-  inners-stand : {tags : List ℕ} {at used : ℕ} {xs : List Payload} → InnersRead part tags base at used xs → Each (PayloadStands s tags) xs
+  inners-stand : {ground : Ground} {at used : ℕ} {xs : List Payload} → InnersRead part ground base at used xs → Each (PayloadStands s (ground .tags)) xs
   inners-stand (noneInside h) = tt
   inners-stand (nextInside {at = at} t v l e h u r) = (record { tag = t; named = refl; stands = inner-stands at t v l e; value = inside s (base + v) l (inner-ends at t v l e) }, inners-stand r)
 
-items-stand : (s : List ℕ) {tags : List ℕ} {at used : ℕ} {parts : List Part} {mark : Bool} → Bytes s → ItemsRead s tags at used parts mark
-    → Each (PartStands s tags) parts
+items-stand : (s : List ℕ) {ground : Ground} {at used : ℕ} {parts : List Part} {mark : Bool} → Bytes s → ItemsRead s ground at used parts mark
+    → Each (PartStands s (ground .tags)) parts
 unfolding part
 items-stand s b (ended h) = tt
 items-stand s b (closed v e z c) = tt

@@ -168,10 +168,10 @@ fn section(name: &[u8], s: &[u8])
 }
 
 // Whether a 16-bit number read as two's complement is `v`, which is written `name`.
-fn sign(n: u16, v: i32, name: &[u8]) {
+fn sign(n: u16, v: i64, name: &[u8]) {
     text(b"signed ");
     decimal(n as u64);
-    if numbers::signed16(n) == v {
+    if numbers::signed32(numbers::extended(n)) == v {
         text(b" is ");
     } else {
         text(b" is not ");

@@ -1,5 +1,5 @@
 // Lists the packs of the file `cases`, each under its title; the gate holds what is printed to the file `stdout`. Both files are made by the
-// reference (`cargo run --release --offline --example list_vectors` in reference/): a case is its title line and its pack, each after its length in two bytes.
+// reference (`cargo run --release --offline --example vectors_text` in reference/): a case is its title line and its pack, each after its length in two bytes.
 ghost use Prim.Native.Nat.{_≤_};
 ghost use lib.ListN.{length};
 use libc::STDOUT_FILENO;

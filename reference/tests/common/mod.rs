@@ -59,5 +59,11 @@ pub fn config(offset: i16, mappings: &[(u32, &str)]) -> Vec<u8> {
 }
 
 pub fn sync(payloads: &[Vec<u8>]) -> Vec<u8> {
-    payload(2, &[vec![0, 1, 0, 2], payloads.concat()].concat())
+    sync_at(1, payloads)
+}
+
+/// A Sync of this sample_offset.
+pub fn sync_at(offset: i16, payloads: &[Vec<u8>]) -> Vec<u8> {
+    let head = [offset.to_be_bytes(), [0, 2]].concat();
+    payload(2, &[head, payloads.concat()].concat())
 }

@@ -1,48 +1,27 @@
--- `figures::put_signed` meets its contract: a number below the middle as it is, another as a minus and what it lacks to 65,536.
-use Prim.Native.Nat.{_+_, _-_, _<_}
-use mathlib.Core.Path.{_≡_, ap, _∙_}
-use mathlib.Core.List.{[], _∷_, _++_}
+-- `figures::put_signed` meets its contract: a number of 16 bits whose sign is extended to 32 is the same number.
+use mathlib.Core.Path.{_≡_, ap, _∙_, subst}
 use borrow.Author.Needs.{needs}
 use native.Mathlib.Omega.{arith}
-use lib.ListN.{length, length-set}
-use Rattle.runs.proofs.Over.{wrote-byte, wrote-then}
-use Rattle.numbers.specs.Big.{signed}
-use Rattle.figures.specs.Figures.{decimal, integer}
-use Rattle.figures.proofs.Figures.{signed-low, signed-high}
-use Rattle.figures.proofs.Fields.{field-put}
+use lib.IntN.{ℤ}
+use lib.ListN.{length}
+use Rattle.numbers.specs.Big.{signed, signed32}
+use Rattle.numbers.proofs.Signs.{extended-exact}
+use Rattle.figures.specs.Figures.{integer}
+use Rattle.figures.specs.Fields.{FieldPut}
 use Rattle.figures.proofs.put_signed.Statement.{statement}
 use Rattle.figures.proofs.put_signed.Tie as tie
 
--- what the number is as text, by the test
-low : (c : tie.Then1) → let n = c .before .before .args .n in integer (signed n) ≡ decimal n
-low c = signed-low (c .before .before .args .n) (c .if1 .taken)
+same : (c : tie.After-extended) → signed32 (c .extended .result) ≡ signed (c .before .before .before .args .n)
+same c = let b = c .before .before .before in ap signed32 (c .extended .ensures) ∙ extended-exact (b .args .n) (b .fits .n .fits)
 
-high : (c : tie.Else1) → let n = c .before .before .args .n in integer (signed n) ≡ 45 ∷ decimal (65536 - n)
-high c = let b = c .before .before in signed-high (b .args .n) (c .if1 .left) (b .fits .n .fits)
+put-signed32-requires : tie.Need-put-signed32-requires
+put-signed32-requires c κs = omega (arith, c .before .before .before .pre, ap (λ (z : ℤ). length (integer z)) (same c))
 
-room : (c : tie.Else1) → let a = c .before .before .args in a .at + 1 + length (decimal (65536 - a .n)) < length (a .out .now)
-room c = omega (arith, c .before .before .pre, ap length (high c))
-
-returns-2 : tie.Need-returns-2
-returns-2 c =
-    let e = c .before .before .before .before in
-    let a = e .before .before .args in
-    let digits = decimal (65536 - a .n) in
-    let h : a .at < length (a .out .now) = omega (arith, room e) in
-    rw (high e)
-    (field-put (45 ∷ digits) (a .end)
-    (wrote-then (45 ∷ []) (digits ++ (a .end ∷ [])) (omega arith) (wrote-byte (a .out .now) (a .at) 45 h) (c .before .before .put-decimal2 .ensures .wrote)))
+returns : tie.Need-returns
+returns c =
+    let k = c .before .before in
+    let a = k .before .before .before .before .args in
+    subst (λ (z : ℤ). FieldPut (a .out .now) (a .at) (integer z) (a .end) (k .put-signed32 .result) (k .put-signed32 .last .0)) (same (k .before)) (k .put-signed32 .ensures)
 
 pub put-signed-spec : {M : Type 1} → statement M
-put-signed-spec =
-    tie.close
-    (tie.spec
-    (λ c κs. omega (arith, c .before .before .before .pre, ap length (low (c .before))))
-    (λ c. search needs)
-    (λ c. rw (low (c .before .before .before .before)) (c .before .before .put-decimal .ensures))
-    (λ c. omega (arith, room c))
-    (λ c. search needs)
-    (λ c. search needs)
-    (λ c κs. simp length-set (room (c .before)))
-    (λ c. c .before .before .put-decimal2 .kept .0 ∙ simp length-set)
-    returns-2)
+put-signed-spec = tie.close (tie.spec (λ c κs. search needs) put-signed32-requires (λ c. search needs) returns)

@@ -1,6 +1,7 @@
 -- `lookup::lookup` meets its contract: each return by what was sought in each pack.
 use mathlib.Core.Path.{_∙_}
 use borrow.Author.Needs.{needs}
+use mir.Facts.{toZ-ofZ}
 use Rattle.lookup.proofs.Looked.{main-refused, other-refused, in-main, backup-refused, in-backup, in-neither}
 use Rattle.lookup.proofs.lookup.Statement.{statement}
 use Rattle.lookup.proofs.lookup.Tie as tie
@@ -16,9 +17,9 @@ returns-2 c =
 
 returns-3 : tie.Need-returns-3
 returns-3 c =
-    let check = c .before .before in
+    let check = c .before .before .before in
     let first = check .before .before in
-    in-main _ _ _ (first .before .before .sought-in .ensures) (first .first2 .given .1) (check .check .ensures) (c .enum-told .given .1)
+    in-main _ _ _ (first .before .before .sought-in .ensures) (first .first2 .given .1) (check .check .ensures) (c .before .enum-told .given .1) (toZ-ofZ (search needs) ∙ c .signed32 .ensures)
 
 returns-4 : tie.Need-returns-4
 returns-4 c =
@@ -29,9 +30,9 @@ returns-4 c =
 
 returns-5 : tie.Need-returns-5
 returns-5 c =
-    let second = c .before .before .before in
+    let second = c .before .before .before .before in
     let first = second .before in
-    in-backup _ _ _ (first .before .before .sought-in .ensures) (first .enum-told2 .given .1) (second .sought-in2 .ensures) (c .before .second2 .given .1)
+    in-backup _ _ _ (first .before .before .sought-in .ensures) (first .enum-told2 .given .1) (second .sought-in2 .ensures) (c .before .before .second2 .given .1) (toZ-ofZ (search needs) ∙ c .signed322 .ensures)
 
 returns-6 : tie.Need-returns-6
 returns-6 c =
@@ -52,11 +53,13 @@ lookup-spec =
     (λ c. search needs)
     (λ c κs. search needs)
     (λ c. search needs)
-    (λ c. search needs)
     (λ c κs. search needs)
     (λ c. search needs)
     (λ c κs. search needs)
     (λ c. search needs)
+    (λ c κs. search needs)
+    (λ c. search needs)
+    (λ c κs. search needs)
     (λ c. search needs)
     (λ c κs. search needs)
     returns

@@ -13,8 +13,15 @@ returns-2 c =
     let k = c .before .before in
     let a = k .args in
     c .or-else .ensures
-    ∙ ap (orElse (soughtOf (a .first))) (spot-some (record { start = a .start; len = a .len }) (λ z. omega (arith, z, k .pre)))
-    ∙ own-tag (soughtOf (a .first)) (a .wanted) (a .tag) (a .start) (a .len) (eq-eqb _ _ (c .before .if1 .left))
+    ∙ ap (orElse (soughtOf (a .first))) (spot-some (record { start = a .start; len = a .len; total = a .total }) (λ z. omega (arith, z, k .pre .0)))
+    ∙ own-tag (soughtOf (a .first)) (a .wanted) (a .tag) (a .start) (a .len) (a .total) (eq-eqb _ _ (c .before .if1 .left))
 
 pub or-payload-spec : {M : Type 1} → statement M
-or-payload-spec = tie.close (tie.spec (λ c. other-tag _ _ _ _ _ (ne-eqb _ _ (c .if1 .taken))) (λ c κs. search needs) returns-2)
+or-payload-spec =
+    tie.close
+    (tie.spec
+    (λ c. other-tag _ _ _ _ _ _ (ne-eqb _ _ (c .if1 .taken)))
+    (λ c. omega (arith, c .before .pre .1))
+    (λ c. omega (arith, c .before .pre .1))
+    (λ c κs. search needs)
+    returns-2)

@@ -7,7 +7,7 @@ use native.Mathlib.Omega.{arith}
 use denote.Ref.{now}
 use lib.ListN.{length}
 use borrow.Author.Needs.{needs}
-use Rattle.pack.specs.Payloads.{innerAt}
+use Rattle.pack.specs.Payloads.{innerAt, groundOf}
 use Rattle.pack.specs.declared.Name.{Name}
 use Rattle.pack.specs.declared.Found.the-variants.{Whole}
 use Rattle.pack.proofs.Payloads.{Fits, inner-within}
@@ -18,10 +18,10 @@ use Rattle.lookup.proofs.seek_inside.Statement.{statement}
 use Rattle.lookup.proofs.seek_inside.Tie as tie
 
 abbrev Inv-loop : tie.InvT-loop
-Inv-loop q base used wanted first₀ n₀ at₀ first n at = (tags : List ℕ) (test : Name → Bool) → Tells tags test wanted → Within q tags test base used n at (soughtOf first)
+Inv-loop q base used wanted total first₀ n₀ at₀ first n at = (tags : List ℕ) (test : Name → Bool) → Tells tags test wanted → Within q (groundOf tags total) test base used n at (soughtOf first)
 
 abbrev μ-loop : tie.MeasureT-loop
-μ-loop q base used wanted first₀ n₀ at₀ first n at = length q - at
+μ-loop q base used wanted total first₀ n₀ at₀ first n at = length q - at
 
 -- in the arm of a whole payload, the payload is there
 abbrev Whole-at : tie.After-found2 Inv-loop μ-loop → Type 0
@@ -47,6 +47,11 @@ returns c =
 
 add-or-payload : tie.Need-add-or-payload Inv-loop μ-loop
 add-or-payload c = omega (arith, fits (c .before) .inside, c .before .before .before .before .before .before .before .pre .1)
+
+or-payload-requires : tie.Need-or-payload-requires Inv-loop μ-loop
+or-payload-requires c κs =
+    let f = c .before in
+    (omega (arith, fits f .later), omega (arith, fits f .inside, f .before .before .before .before .before .before .pre .1))
 
 add-at : tie.Need-add-at Inv-loop μ-loop
 add-at c = let f = c .before .before in omega (arith, fits f .inside, f .before .before .before .before .before .before .pre .1)
@@ -74,7 +79,7 @@ seek-inside-spec =
     returns
     (λ c. search needs)
     add-or-payload
-    (λ c κs. omega (arith, fits (c .before) .later))
+    or-payload-requires
     (λ c. omega (arith, fits (c .before .before) .room))
     add-at
     loop-less

@@ -7,22 +7,24 @@ use native.Mathlib.Omega.{arith}
 use denote.Ref.{now}
 use lib.ListN.{length}
 use borrow.Author.Needs.{needs}
-use Rattle.pack.specs.Items.{itemAt}
+use Rattle.numbers.specs.Big.{extended, sum32}
+use Rattle.pack.specs.Payloads.{groundOf}
+use Rattle.pack.specs.Items.{itemAt, syncTotal}
 use Rattle.pack.specs.declared.Name.{Name}
 use Rattle.pack.specs.declared.Step.the-variants as S
 use Rattle.pack.proofs.Payloads.{Fits, plain-fits, open-fits, close-ends}
 use Rattle.pack.proofs.Coming.{coming-ends, coming-bad, coming-good, coming-crc, sync-refused, sync-none, inside-long, inside-part}
 use Rattle.lookup.specs.Sought.{soughtOf, Tells}
 use Rattle.lookup.proofs.Steps.{spot-none, body-refused, body-fine}
-use Rattle.lookup.proofs.Seeking.{SeekingItems, items-begin, plain-on, open-on}
+use Rattle.lookup.proofs.Seeking.{on-sum, SeekingItems, items-begin, plain-on, open-on}
 use Rattle.lookup.proofs.seek_items.Statement.{statement}
 use Rattle.lookup.proofs.seek_items.Tie as tie
 
 abbrev Inv-loop : tie.InvT-loop
-Inv-loop s from wanted first₀ n₀ at₀ first n at = (tags : List ℕ) (test : Name → Bool) → Tells tags test wanted → SeekingItems s tags test from n at (soughtOf first)
+Inv-loop s from wanted total first₀ n₀ at₀ first n at = (tags : List ℕ) (test : Name → Bool) → Tells tags test wanted → SeekingItems s (groundOf tags total) test from n at (soughtOf first)
 
 abbrev μ-loop : tie.MeasureT-loop
-μ-loop s from wanted first₀ n₀ at₀ first n at = length s - at
+μ-loop s from wanted total first₀ n₀ at₀ first n at = length s - at
 
 -- in each arm, what stands there
 closes : (c : tie.After-step2 Inv-loop μ-loop)
@@ -47,6 +49,17 @@ room : (c : tie.After-step4 Inv-loop μ-loop)
     Fits (now (l .before .before .args .s)) (l .loop .at) (l .loop .n) (c .step4 .given .0 .0) (c .step4 .given .0 .1 .0) × (4 ≤ c .step4 .given .0 .1 .0)
 room c = open-fits _ _ _ _ _ (opens c)
 
+-- the total offset inside a Sync
+own-sum : (i : tie.After-seek-inside Inv-loop μ-loop)
+    → let t = i .before .before in
+    let f = t .before .before .before in
+    let b = f .before .before .before .before .before .before in
+    t .sum32 .result ≡ syncTotal (now (b .args .s)) (b .args .total) (f .step4 .given .0 .0)
+own-sum i =
+    let t = i .before .before in
+    let b = t .before .before .before .before .before .before .before .before .before in
+    t .sum32 .ensures ∙ ap (λ (n : ℕ). sum32 (b .args .total) (extended n)) (t .before .be16 .ensures)
+
 returns : tie.Need-returns Inv-loop μ-loop
 returns c =
     let f = c .before in
@@ -69,6 +82,9 @@ returns-3 c =
     λ tags test tells.
     body-refused test (coming-crc (t .before .loop .inv tags test tells .coming) (t .loop-test .taken) (closes f) (sym (c .before .crc-good .ensures) ∙ c .if1 .left))
 
+or-payload-requires : tie.Need-or-payload-requires Inv-loop μ-loop
+or-payload-requires c κs = let f = c .before in (omega (arith, fits f .later), omega (arith, fits f .inside, f .before .before .before .before .before .before .pre))
+
 add-at : tie.Need-add-at Inv-loop μ-loop
 add-at c = let f = c .before .before in omega (arith, fits f .inside, f .before .before .before .before .before .before .pre)
 
@@ -89,7 +105,7 @@ add-end c = let f = c .before in omega (arith, room f .0 .inside, f .before .bef
 
 seek-inside-requires : tie.Need-seek-inside-requires Inv-loop μ-loop
 seek-inside-requires c κs =
-    let f = c .before .before in
+    let f = c .before .before .before .before in
     let k = f .before .before .before .before .before .before in
     let s = now (k .args .s) in
     let v = f .step4 .given .0 .0 in
@@ -100,32 +116,32 @@ seek-inside-requires c κs =
 returns-4 : tie.Need-returns-4 Inv-loop μ-loop
 returns-4 c =
     let i = c .before .before .before in
-    let f = i .before .before .before in
+    let f = i .before .before .before .before .before in
     let t = f .before .before .before in
     λ tags test tells.
-    body-refused test (sync-refused (t .before .loop .inv tags test tells .coming) (t .loop-test .taken) (opens f) (i .seek-inside .ensures tags test tells .told) (c .before .answer .given .1))
+    body-refused test (sync-refused (t .before .loop .inv tags test tells .coming) (t .loop-test .taken) (opens f) (on-sum (own-sum i) (i .seek-inside .ensures tags test tells) .told) (c .before .answer .given .1))
 
 returns-5 : tie.Need-returns-5 Inv-loop μ-loop
 returns-5 c =
     let i = c .before .before .before .before in
-    let f = i .before .before .before in
+    let f = i .before .before .before .before .before in
     let t = f .before .before .before in
     λ tags test tells.
     body-refused test
-    (sync-none (t .before .loop .inv tags test tells .coming) (t .loop-test .taken) (opens f) (i .seek-inside .ensures tags test tells .told) (c .before .before .answer2 .given .1)
+    (sync-none (t .before .loop .inv tags test tells .coming) (t .loop-test .taken) (opens f) (on-sum (own-sum i) (i .seek-inside .ensures tags test tells) .told) (c .before .before .answer2 .given .1)
     (c .if2 .taken))
 
 loop-less-2 : tie.Need-loop-less-2 Inv-loop μ-loop
 loop-less-2 c =
-    let f = c .before .before .before .before .before .before .before .before .before in omega (arith, room f .0 .later, room f .0 .inside, f .before .before .before .loop-test .taken)
+    let f = c .before .before .before .before .before .before .before .before .before .before .before in omega (arith, room f .0 .later, room f .0 .inside, f .before .before .before .loop-test .taken)
 
 loop-again-2 : tie.Need-loop-again-2 Inv-loop μ-loop
 loop-again-2 c =
     let i = c .before .before .before .before .before .before in
-    let f = i .before .before .before in
+    let f = i .before .before .before .before .before in
     let t = f .before .before .before in
     λ tags test tells.
-    open-on (t .before .loop .inv tags test tells) (t .loop-test .taken) (opens f) (i .seek-inside .ensures tags test tells) (c .before .before .before .before .answer2 .given .1)
+    open-on (t .before .loop .inv tags test tells) (t .loop-test .taken) (opens f) (on-sum (own-sum i) (i .seek-inside .ensures tags test tells)) (c .before .before .before .before .answer2 .given .1)
     (c .before .before .if2 .left) (c .or-else .ensures)
 
 returns-6 : tie.Need-returns-6 Inv-loop μ-loop
@@ -140,7 +156,7 @@ seek-items-spec =
     (tie.spec
     Inv-loop
     μ-loop
-    (λ c tags test tells. items-begin _ tags test _ (spot-none _ refl))
+    (λ c tags test tells. items-begin _ _ test _ (spot-none _ refl))
     (λ c κs. search needs)
     (λ c. search needs)
     returns
@@ -150,7 +166,7 @@ seek-items-spec =
     returns-2
     returns-3
     (λ c. search needs)
-    (λ c κs. omega (arith, fits (c .before) .later))
+    or-payload-requires
     (λ c. omega (arith, fits (c .before .before) .room))
     add-at
     loop-less
@@ -159,9 +175,11 @@ seek-items-spec =
     add-base
     add-end
     (λ c. omega (arith, room (c .before) .0 .room))
-    (λ c. omega (arith, room (c .before) .1))
-    (λ c. omega (arith, room (c .before) .1))
-    (λ c. omega (arith, room (c .before) .0 .inside))
+    (λ c κs. omega (arith, room (c .before) .0 .inside, room (c .before) .1))
+    (λ c κs. search needs)
+    (λ c. omega (arith, room (c .before .before .before) .1))
+    (λ c. omega (arith, room (c .before .before .before) .1))
+    (λ c. omega (arith, room (c .before .before .before) .0 .inside))
     seek-inside-requires
     (λ c. search needs)
     returns-4

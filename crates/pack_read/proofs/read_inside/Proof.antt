@@ -6,7 +6,7 @@ use borrow.Author.Needs.{needs}
 use denote.Ref.{now}
 use Prim.Native.Nat.{ℕ, _-_, _≤_}
 use lib.ListN.{length, take}
-use Rattle.pack.specs.Payloads.{innerAt}
+use Rattle.pack.specs.Payloads.{innerAt, groundOf}
 use Rattle.pack.specs.declared.Found.the-variants.{Whole}
 use Rattle.pack.proofs.Payloads.{inner-within}
 use Rattle.pack_read.proofs.Listing.{Filling, filling-begins, filling-on, filling-ends, filling-stops}
@@ -14,10 +14,10 @@ use Rattle.pack_read.proofs.read_inside.Statement.{statement}
 use Rattle.pack_read.proofs.read_inside.Tie as tie
 
 abbrev Inv-loop : tie.InvT-loop
-Inv-loop q base used mapped tags known slots₀ k₀ j₀ slots k j = (fuel : ℕ) → length q ≤ fuel → Filling q (take mapped tags) base fuel used slots₀ slots k j
+Inv-loop q base used total mapped tags known slots₀ k₀ j₀ slots k j = (fuel : ℕ) → length q ≤ fuel → Filling q (groundOf (take mapped tags) total) base fuel used slots₀ slots k j
 
 abbrev μ-loop : tie.MeasureT-loop
-μ-loop q base used mapped tags known slots₀ k₀ j₀ slots k j = length q - j
+μ-loop q base used total mapped tags known slots₀ k₀ j₀ slots k j = length q - j
 
 -- in the arm of a whole payload, the payload is there
 abbrev Whole-at : tie.After-found2 Inv-loop μ-loop → Type 0

@@ -8,20 +8,23 @@ use Rattle.pack_text.proofs.put_number.Tie as tie
 
 returns : tie.Need-returns
 returns c =
-    let len = c .before .before in
+    let total = c .before .before in
+    let len = total .before .before .before .before in
     let tag = len .before .before .before .before in
     let start = tag .before .before .before .before in
     let word = start .before .before .before .before in
     let b = word .before .before .before .before in
     let a = b .args in
-    let left = next-field (first-field (a .out .now) (a .at) (numberFields (a .start) (a .tag) (a .len)) (omega arith) (b .pre)) (word .put-word .ensures) in
-    last-field (next-field (next-field left (start .put-decimal .ensures)) (tag .put-decimal2 .ensures)) (len .put-decimal3 .ensures)
+    let left = next-field (first-field (a .out .now) (a .at) (numberFields (a .start) (a .tag) (a .len) (a .total)) (omega arith) (b .pre)) (word .put-word .ensures) in
+    let left = next-field (next-field left (start .put-decimal .ensures)) (tag .put-decimal2 .ensures) in
+    last-field (next-field left (len .put-decimal3 .ensures)) (total .put-signed32 .ensures)
 
 pub put-number-spec : {M : Type 1} → statement M
 put-number-spec =
     tie.close
     (tie.spec
     (λ c. search needs)
+    (λ c κs. search needs)
     (λ c κs. search needs)
     (λ c κs. search needs)
     (λ c κs. search needs)

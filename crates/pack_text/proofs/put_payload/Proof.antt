@@ -31,13 +31,13 @@ stands c = let a = start c .args in label-stands (a .pack .now) (a .t4) (c .befo
 label-line : (c : tie.After-known-told)
     → let a = start c .args in
     let p = getD (a .t4) (c .before .name .given .0 .0) 0 in
-    payloadLine (a .pack .now) (a .t4) (a .payload) ≡ line (labelFields (a .payload .start) (stretch (a .pack .now) p (p + 16 - p)) (a .payload .«value_len»))
-label-line c = let a = start c .args in line-label (a .pack .now) (a .t4) (a .payload .start) (a .payload .«value_len») (c .before .name .given .1)
+    payloadLine (a .pack .now) (a .t4) (a .payload) ≡ line (labelFields (a .payload .start) (stretch (a .pack .now) p (p + 16 - p)) (a .payload .«value_len») (a .payload .total))
+label-line c = let a = start c .args in line-label (a .pack .now) (a .t4) (a .payload .start) (a .payload .«value_len») (a .payload .total) (c .before .name .given .1)
 
 number-line : (c : tie.After-known-told2)
     → let a = start-2 c .args in
-    payloadLine (a .pack .now) (a .t4) (a .payload) ≡ line (numberFields (a .payload .start) (c .before .name2 .given .0 .0) (a .payload .«value_len»))
-number-line c = let a = start-2 c .args in line-number (a .pack .now) (a .t4) (a .payload .start) (a .payload .«value_len») (c .before .name2 .given .1)
+    payloadLine (a .pack .now) (a .t4) (a .payload) ≡ line (numberFields (a .payload .start) (c .before .name2 .given .0 .0) (a .payload .«value_len») (a .payload .total))
+number-line c = let a = start-2 c .args in line-number (a .pack .now) (a .t4) (a .payload .start) (a .payload .«value_len») (a .payload .total) (c .before .name2 .given .1)
 
 pub put-payload-spec : {M : Type 1} → statement M
 put-payload-spec =

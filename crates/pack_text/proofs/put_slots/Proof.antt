@@ -17,7 +17,7 @@ use Rattle.pack_text.proofs.put_slots.Tie as tie
 
 -- what the code's index would give outside the slots
 abbrev outside : Slot
-outside = record { item = Single (record { name = Label 0; start = 0; «value_start» = 0; «value_len» = 0 }) }
+outside = record { item = Single (record { name = Label 0; start = 0; «value_start» = 0; «value_len» = 0; total = 0 }) }
 
 abbrev Inv-loop : tie.InvT-loop
 Inv-loop out₀ at pack places count slots next₀ i₀ out next i =
