@@ -1,3 +1,4 @@
+#![tactic(auto)]
 // Words, numbers and bytes as text, in ASCII, each written into a lent buffer as a field of a line.
 ghost use Rattle.std.specs.Prelude.{◌≡◌, ◌+◌, ◌<◌, ◌^◌, length};
 ghost use Rattle.numbers.specs.Big.{signed, signed32};

@@ -5,7 +5,7 @@ use native.Mathlib.Nat.{mod-lt, mod-eq_of_lt, mod-eq-sub-mod, add_comm}
 use native.Mathlib.Omega.{arith}
 use borrow.Author.Tests.{lt-ltb, le-ltb, ltb-true, ltb-false}
 use lib.Dec.{ltb}
-use lib.IntN.{ℤ, pos, negsuc, sub_ℕ, ◌+ℤ◌}
+use lib.IntN.{pos, negsuc, sub_ℕ, ◌+ℤ◌}
 use Rattle.runs.proofs.Cases.{split}
 use Rattle.numbers.specs.Big.{signed, signed32, extended, sum32}
 

@@ -1,3 +1,4 @@
+#![tactic(auto)]
 // Runs of bytes in a lent buffer: the two loops that every writer shares.
 ghost use Rattle.std.specs.Prelude.{◌≡◌, ◌+◌, ◌-◌, ◌≤◌, length, replicate};
 ghost use Rattle.runs.specs.Over.{over, Wrote};

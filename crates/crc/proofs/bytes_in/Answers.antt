@@ -1,0 +1,14 @@
+-- `crc::bytes_in` meets its contract. The loop's invariant: what is left of the bytes takes the register to where the whole takes the start.
+use borrow.Author.Rules.{rules}
+use mathlib.Core.Path.{refl}
+use Rattle.crc.proofs.Slices.{left_byte, left_done}
+use Rattle.crc.proofs.bytes_in.Goals as goal
+
+pub loop-i-init : goal.loop-i-init
+loop-i-init c = record { inside = search rules; gives = refl }
+
+pub loop-i-preserved : goal.loop-i-preserved
+loop-i-preserved c = left_byte c.loop-i.invariant (search rules) c.byte_in-c.ensures
+
+pub returns : goal.returns
+returns c = left_done c.loop-i.invariant (search rules)
