@@ -6,7 +6,7 @@ ghost use Rattle.pack.specs.Fixed.{item_cap};
 ghost use Rattle.scrub_marks.specs.Marks.{mark_numbers, mark_at};
 
 // A slot of a reading that goes, or that stays under a number or under the label of a mapping. A Sync has no name.
-#[derive(Drop)]
+#[derive(Clone, Copy)]
 pub enum Mark {
     Gone,
     Number(u32),

@@ -12,7 +12,7 @@ use scrub_marks::Mark;
 use scrub_ops::Op;
 
 // What a slot adds: its write, the bytes inside a Sync that is still to come, and its size.
-#[derive(Drop)]
+#[derive(Clone, Copy)]
 pub struct SlotPlan {
     pub op: Op,
     pub inner: u32,

@@ -9,7 +9,7 @@ ghost use Rattle.scrub_sheet.specs.Asked.{sheet_asked, asks, EntriesThere, Short
 use refusals::{Answer, Refusal};
 
 // What a sheet asks for: all, nothing, or its labels and numbers by their counts; a malformed one is refused.
-#[derive(Drop)]
+#[derive(Clone, Copy)]
 pub enum Asked {
     All,
     Nothing,
