@@ -1,3 +1,4 @@
+#![tactic(auto)]
 // The value of a label's first payload in the main pack or else in the backup pack, and a mark that says in which.
 ghost use Rattle.std.specs.Prelude.{◌≡◌, List, Bool, ℕ, ◌+◌, ◌<◌, ◌≤◌, length, take};
 ghost use Rattle.pack.specs.Payloads.{ground_of};
