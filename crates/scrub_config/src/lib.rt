@@ -1,3 +1,4 @@
+#![tactic(auto)]
 // The Config of a scrubbed pack: its size, and its bytes in a lent buffer that has room for them.
 ghost use Rattle.std.specs.Prelude.{◌≡◌, ◌++◌, ◌+◌, ◌≤◌, ◌<◌, length, take, drop};
 ghost use Rattle.runs.specs.Over.{Wrote};

@@ -1,3 +1,4 @@
+#![tactic(auto)]
 // What becomes of the slots of a reading, as marks: two numbers each in a lent array.
 ghost use Rattle.std.specs.Prelude.{◌≡◌, [], ◌∷◌, ◌+◌, ◌*◌, ◌<◌, ◌≤◌, length};
 ghost use Rattle.runs.specs.Over.{over};

@@ -1,3 +1,4 @@
+#![tactic(auto)]
 // The writes of a scrub: how each is kept as numbers, and its bytes: a payload, or a Sync up to its first payload.
 ghost use Rattle.std.specs.Prelude.{◌≡◌, [], ◌∷◌, ◌+◌, ◌≤◌, ◌<◌, ◌*◌, length, take};
 ghost use Rattle.runs.specs.Over.{Wrote, over};

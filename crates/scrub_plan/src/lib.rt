@@ -1,3 +1,4 @@
+#![tactic(auto)]
 // The plan pass: from marked slots, the writes and their size.
 ghost use Rattle.std.specs.Prelude.{◌≡◌, ◌+◌, ◌≤◌, take, replicate};
 ghost use Rattle.runs.specs.Those.{Each};

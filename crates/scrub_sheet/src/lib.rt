@@ -1,3 +1,4 @@
+#![tactic(auto)]
 // The keep sheet: judged once, then asked for each name. Its entries are read where they stand.
 ghost use Rattle.std.specs.Prelude.{◌≡◌, false, ℕ, ◌+◌, ◌*◌, ◌<◌, ◌≤◌, length, take, drop, get_or};
 ghost use Rattle.runs.specs.Same.{among, listed};
