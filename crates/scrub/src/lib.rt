@@ -1,3 +1,4 @@
+#![tactic(auto)]
 // The scrub: the pack that a sheet keeps of a pack, written anew into a lent buffer.
 ghost use Rattle.std.specs.Prelude.{◌≡◌, replicate};
 ghost use Rattle.refusals.specs.Outcomes.{fine};
