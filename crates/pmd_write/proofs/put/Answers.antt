@@ -1,14 +1,13 @@
 -- `pmd_write::put` meets its contract. Its loops keep what those of `weigh` keep, and that the pen has written the bits so far. Of a list that
 -- was weighed each number is there, is taken and has room.
-use Prim.Native.Nat.{◌-◌, ◌<◌}
+use Prim.Native.Nat.{◌<◌}
 use mathlib.Core.Path.{◌∙◌}
 use mathlib.Core.List.{[]}
 use native.Mathlib.Omega.{arith}
-use borrow.Author.Rules.{rules}
 use lib.ListN.{length, get_or}
 use Rattle.bits.specs.Pen.{PenFits}
 use Rattle.bits.proofs.Penned.{closed_length}
-use Rattle.pmd.proofs.Walk.{Records, Pieces, Fields, blank, pieces_begin, fields_begin, pieces_on, pieces_over}
+use Rattle.pmd.proofs.Walk.{blank, pieces_begin, fields_begin, pieces_on, pieces_over}
 use Rattle.pmd.proofs.Frame.{Frame, frame_begins, frame_then}
 use Rattle.pmd_write.proofs.Laid.{InShape, run_none, due_there, over_ends, over_again}
 use Rattle.pmd_write.proofs.Inked.{Inked, inked_begins, due_fits, due_put, inked_ends, frame_put}
@@ -17,10 +16,10 @@ use Rattle.pmd_write.proofs.put.Goals.{After-loop-i-2, After-number_of-v, In-loo
 
 -- what is known where a record is closed
 module _ (c : After-loop-i-2) where
-  over : InShape (Inked c.loop-i-2.pen c.loop-i-2.out) (begin c).args.t1 (begin c).args.numbers.now c.loop-i-2.n []
-  over = pieces_over (begin c).requires.0 c.loop-i-2-test.false c.loop-i-2.invariant.0
+  over : InShape (Inked c.loop-i-2.pen c.loop-i-2.out) c.args.shape c.args.numbers.now c.loop-i-2.n []
+  over = pieces_over c.requires.0 c.loop-i-2-test.false c.loop-i-2.invariant.0
 
-  kept_rest : Frame (begin c).args.out.now 0 c.loop-i-2.out c.loop-i-2.pen.at
+  kept_rest : Frame c.args.out.now 0 c.loop-i-2.out c.loop-i-2.pen.at
   kept_rest = frame_then c.loop-i.invariant.1 c.loop-i-2.invariant.1
 
 -- the number is there
@@ -28,7 +27,7 @@ there : (c : In-loop-more) → c.loop-more.n < length c.args.numbers.now
 there c = due_there c.loop-more.invariant.0 c.loop-more-test.true c.requires.1
 
 -- and its bits have room
-fits : (c : After-number_of-v) → PenFits c.loop-more.pen (get_or c.args.t1.pieces c.loop-i-2.i blank).1 c.number_of-v.result c.loop-more.out
+fits : (c : After-number_of-v) → PenFits c.loop-more.pen (get_or c.args.shape.pieces c.loop-i-2.i blank).1 c.number_of-v.result c.loop-more.out
 fits c =
     due_fits c.loop-more.invariant.0 c.loop-more-test.true c.requires.1 c.value_of.ensures c.number_of-v.ensures
     (omega (arith, c.loop-more.invariant.1.long, c.loop-i-2.invariant.1.long, c.loop-i.invariant.1.long))
@@ -47,8 +46,8 @@ loop-i-2-preserved c =
 
 pub returns-then-numbers-n : goal.returns-then-numbers-n
 returns-then-numbers-n c =
-    let o = over c in
-    inked_ends (over_ends o c.if-numbers-n.true) o.also (kept_rest c) c.close_pen.ensures (λ k. omega (arith, c.type_inv.out k))
+    let o = over (goal.at.returns-then-numbers-n c).After-loop-i-2 in
+    inked_ends (over_ends o c.if-numbers-n.true) o.also (kept_rest (goal.at.returns-then-numbers-n c).After-loop-i-2) c.close_pen.ensures (λ k. omega (arith, c.type_inv.out k))
 
 pub loop-i-init : goal.loop-i-init
 loop-i-init c = (record { known = run_none (inked_begins _); there = omega arith }, frame_begins _ 0)
@@ -60,7 +59,7 @@ pub loop-more-init : goal.loop-more-init
 loop-more-init c = (fields_begin c.requires.0 c.loop-i-2-test.true c.loop-i-2.invariant.0, frame_begins _ _)
 
 pub offset_bounds-numbers-n : goal.offset_bounds-numbers-n
-offset_bounds-numbers-n c = omega (arith, there c)
+offset_bounds-numbers-n c = omega (arith, there (goal.at.offset_bounds-numbers-n c).In-loop-more)
 
 pub bounds-numbers-n : goal.bounds-numbers-n
 bounds-numbers-n c = there (goal.at.bounds-numbers-n c).In-loop-more
@@ -81,13 +80,13 @@ pub loop-i-2-smaller : goal.loop-i-2-smaller
 loop-i-2-smaller c = omega (arith, c.loop-i-2-test.true)
 
 pub close_pen-requires : goal.close_pen-requires
-close_pen-requires c = (over c).also.ok
+close_pen-requires c = (over (goal.at.close_pen-requires c).After-loop-i-2).also.ok
 
 pub shape_of-out-then-numbers-n : goal.shape_of-out-then-numbers-n
-shape_of-out-then-numbers-n c = closed_length (over c).also.type-inv c.close_pen.ensures ∙ (kept_rest c).long
+shape_of-out-then-numbers-n c = closed_length (over (goal.at.shape_of-out-then-numbers-n c).After-loop-i-2).also.ok c.close_pen.ensures ∙ (kept_rest (goal.at.shape_of-out-then-numbers-n c).After-loop-i-2).long
 
 pub loop-i-smaller : goal.loop-i-smaller
 loop-i-smaller c = omega (arith, c.loop-i-2.invariant.0.gone, c.loop-i.invariant.0.there, c.loop-i-2-test.false, c.if-numbers-n.false)
 
 pub loop-i-preserved : goal.loop-i-preserved
-loop-i-preserved c = (over_again (over c) c.requires.0 c.if-numbers-n.false, kept_rest c)
+loop-i-preserved c = (over_again (over (goal.at.loop-i-preserved c).After-loop-i-2) c.requires.0 c.if-numbers-n.false, kept_rest (goal.at.loop-i-preserved c).After-loop-i-2)

@@ -3,7 +3,6 @@ use Prim.Native.Nat.{ℕ}
 use mathlib.Core.Path.{◌≡◌, sym, ap, subst}
 use mathlib.Core.List.{List}
 use native.Mathlib.Omega.{arith}
-use borrow.Author.Rules.{rules}
 use Rattle.refusals.specs.Outcomes.{Outcome}
 use Rattle.refusals.specs.Lent.{Delivered}
 use Rattle.refusals.specs.declared.Answer.{Answer}

@@ -1,7 +1,6 @@
 -- `pmd_write::put_turnarounds` meets its contract. Its loops keep what those of `put` keep, by the steps of a turnaround.
 use Prim.Native.Nat.{◌-◌, ◌<◌}
 use lib.ListN.{length}
-use Rattle.pmd.specs.Fields as F
 use Rattle.pmd.proofs.Turnarounds.{left_at, Strides}
 use Rattle.pmd.proofs.Frame.{Frame}
 use Rattle.pmd_write.proofs.Laid.{InTurn}

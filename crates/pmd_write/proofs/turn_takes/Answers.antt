@@ -1,7 +1,6 @@
 -- `pmd_write::turn_takes` meets its contract: a number within the bound by its value, any other by the bound.
-use mathlib.Core.Path.{◌≡◌, ◌∙◌}
+use mathlib.Core.Path.{◌∙◌}
 use native.Mathlib.Omega.{arith}
-use borrow.Author.Rules.{rules}
 use borrow.Author.Tests.{le-ltb}
 use Rattle.pmd.specs.Shapes.{turn_in}
 use Rattle.pmd.proofs.Fields.{narrow}

@@ -1,29 +1,22 @@
 -- `pmd_write::weigh` meets its contract. Its loops keep that the bits so far, before those that are written from here on, are all, and that
 -- the total is their weight.
-use Prim.Native.Nat.{ℕ, ◌-◌}
 use mathlib.Core.Path.{sym, ap, ◌∙◌}
-use mathlib.Core.List.{List, []}
+use mathlib.Core.List.{[]}
 use native.Mathlib.Omega.{arith}
-use borrow.Author.Rules.{rules}
-use borrow.Author.Tests.{not-true, not-false}
-use lib.ListN.{length}
 use Rattle.refusals.specs.declared.Answer.TheVariants as A
 use Rattle.refusals.proofs.Lent.{answers, counts}
-use Rattle.pmd.proofs.Walk.{Records, Pieces, Fields, pieces_begin, fields_begin, pieces_on, pieces_over}
+use Rattle.pmd.proofs.Walk.{pieces_begin, fields_begin, pieces_on, pieces_over}
 use Rattle.pmd_write.specs.ByShape.{weight}
 use Rattle.pmd_write.proofs.Laid.{InShape, run_none, due, due_narrow, due_short, due_bad, due_on, over_ends, over_again, Weighs, weighs_fits, weighs_on}
 use Rattle.pmd_write.proofs.weigh.Goals as goal
-use Rattle.pmd_write.proofs.weigh.Goals.{After-loop-i-2, In-loop-more}
+use Rattle.pmd_write.proofs.weigh.Goals.{After-loop-i-2}
 
-abbrev list : In-loop-more → List ℕ
-list c = c.args.numbers.now
-
-over : (c : After-loop-i-2) → InShape (Weighs c.args.numbers.now c.loop-i-2.total c.loop-i-2.n) c.args.t1 c.args.numbers.now c.loop-i-2.n []
+over : (c : After-loop-i-2) → InShape (Weighs c.args.numbers.now c.loop-i-2.total c.loop-i-2.n) c.args.shape c.args.numbers.now c.loop-i-2.n []
 over c = pieces_over c.requires c.loop-i-2-test.false c.loop-i-2.invariant
 
 pub returns-then-not-takes : goal.returns-then-not-takes
 returns-then-not-takes c =
-    answers (weight (list (goal.at.returns-then-not-takes c).In-loop-more))
+    answers (weight c.args.numbers.now)
     (due_bad c.loop-more.invariant c.loop-more-test.true c.if-numbers-n.false (sym c.takes.ensures ∙ c.if-not-takes.true))
     c.refused-then-not-takes.ensures
 
@@ -50,7 +43,7 @@ pub loop-more-init : goal.loop-more-init
 loop-more-init c = fields_begin c.requires c.loop-i-2-test.true c.loop-i-2.invariant
 
 pub returns-then-numbers-n : goal.returns-then-numbers-n
-returns-then-numbers-n c = answers (weight (list (goal.at.returns-then-numbers-n c).In-loop-more)) (due_short c.loop-more.invariant c.loop-more-test.true c.if-numbers-n.true) c.refused.ensures
+returns-then-numbers-n c = answers (weight c.args.numbers.now) (due_short c.loop-more.invariant c.loop-more-test.true c.if-numbers-n.true) c.refused.ensures
 
 pub offset_bounds-numbers-n : goal.offset_bounds-numbers-n
 offset_bounds-numbers-n c = omega (arith, c.if-numbers-n.false)

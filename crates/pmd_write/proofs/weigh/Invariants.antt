@@ -2,7 +2,6 @@
 -- the total is their weight.
 use Prim.Native.Nat.{◌-◌}
 use lib.ListN.{length}
-use Rattle.refusals.specs.declared.Answer.TheVariants as A
 use Rattle.pmd.proofs.Walk.{Records, Pieces, Fields}
 use Rattle.pmd_write.proofs.Laid.{InShape, Weighs}
 use Rattle.pmd_write.proofs.weigh.Given as goal

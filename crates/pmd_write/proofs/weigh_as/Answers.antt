@@ -1,7 +1,6 @@
 -- `pmd_write::weigh_as` meets its contract: a shape of some pieces is that of the kind, and the kind of no pieces is that of turnarounds.
 use mathlib.Core.Path.{◌≡◌, sym, ap, ◌∙◌}
 use native.Mathlib.Omega.{arith}
-use borrow.Author.Rules.{rules}
 use Rattle.refusals.specs.Outcomes.{answered}
 use Rattle.pmd.specs.declared.Kind.{Kind}
 use Rattle.pmd.specs.declared.Kind.TheVariants as K

@@ -1,8 +1,6 @@
 -- `pmd_write::weigh_turnarounds` meets its contract. Its loops keep what those of `weigh` keep, by the steps of a turnaround.
 use Prim.Native.Nat.{◌-◌, ◌<◌}
 use lib.ListN.{length}
-use Rattle.refusals.specs.declared.Answer.TheVariants as A
-use Rattle.pmd.specs.Fields as F
 use Rattle.pmd.proofs.Turnarounds.{left_at, Strides}
 use Rattle.pmd_write.proofs.Laid.{InTurn, Weighs}
 use Rattle.pmd_write.proofs.weigh_turnarounds.Given as goal
