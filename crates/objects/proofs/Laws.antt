@@ -8,7 +8,6 @@ use Rattle.runs.specs.Those.{Each}
 use Rattle.runs.specs.Finding.{count}
 use Rattle.refusals.specs.declared.Refusal.{Refusal}
 use Rattle.refusals.specs.declared.Refusal.TheVariants as R
-use Rattle.refusals.specs.declared.Answer.{Answer}
 use Rattle.refusals.specs.declared.Answer.TheVariants as A
 use Rattle.objects.specs.declared.Object.{Object}
 use Rattle.objects.specs.declared.Aod.{Aod}

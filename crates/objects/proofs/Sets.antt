@@ -39,7 +39,8 @@ module _ (r : Aod) (real : Real r) where
   renewed_step rs e =
       split (names r.element e)
       (λ d. let k = names_key d in
-      rw (d, names_mine r.element e d, names_mine r.element (made r) made_own, k.element, eq-eqb r.element r.element refl))
+      rw (d, names_mine r.element e d, names_mine r.element (made r) made_own, eq-eqb e.element r.element k.element)
+      (ap (λ (n : ℕ). latest n (made r) rs) k.element))
       (λ d. split (mine e)
       (λ m. rw (d, m, mine_other r.element e m d)) (λ m. rw (d, m)))
 

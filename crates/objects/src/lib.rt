@@ -1,8 +1,9 @@
+#![tactic(auto)]
 // The object table: its entries, and the records of the values that set and move them.
 
 // An entry of a lent table, as C has it. It is free when its element is 0.
 #[repr(C)]
-#[derive(Drop)]
+#[derive(Clone, Copy)]
 pub struct Object {
     pub element: u32,
     pub class: u32,

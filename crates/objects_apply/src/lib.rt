@@ -1,3 +1,4 @@
+#![tactic(auto)]
 // Works out a call on a table of objects that an array holds as numbers. Where each element stands is noted once, when the table is judged, so that
 // no record looks for its entry.
 ghost use Rattle.std.specs.Prelude.{◌≡◌, ◌&&◌, ◌+◌, ◌*◌, ◌<◌, ◌≤◌, length, drop, replicate};

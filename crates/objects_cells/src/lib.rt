@@ -1,3 +1,4 @@
+#![tactic(auto)]
 // A lent table of objects as numbers in an array, eleven to an entry. C lends structs, of which a slice can only be read and written entry by entry;
 // all that is worked out is worked out on the numbers.
 ghost use Rattle.std.specs.Prelude.{◌≡◌, ◌+◌, ◌*◌, ◌<◌, ◌≤◌, length, replicate};

@@ -1,1 +1,2 @@
+#![tactic(auto)]
 // The calls that PMD values are on the object table: definitions and laws alone.

@@ -2,7 +2,6 @@
 use Prim.Native.Nat.{ℕ}
 use mathlib.Core.Path.{◌≡◌, refl}
 use mathlib.Core.List.{List, ◌∷◌}
-use lib.Dec.{eqb}
 use Rattle.runs.proofs.Cases.{split}
 use Rattle.pmd.specs.Fields.{Field}
 use Rattle.pmd.specs.declared.Piece.{Piece}

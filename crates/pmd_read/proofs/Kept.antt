@@ -37,6 +37,10 @@ use Rattle.pmd.proofs.Walk.{Records, Fields, left_next, fields_open, fields_on}
 use Rattle.pmd.proofs.Begun.{Begun, begun_none, begun_on, begun_as, begun_refused, begun_ends, begun_fits, roomy_never}
 use Rattle.pmd_read.specs.ByShape.{read_by, read_shape}
 
+-- of the numbers themselves nothing is kept
+abbrev pub Any : List ℕ → Type 0
+Any xs = xs ≡ xs
+
 -- how many bits are left
 length_left : (s : List ℕ) (at : ℕ) → length (drop at (bits s)) ≡ 8 * length s - at
 length_left s at = length-drop at (bits s) ∙ ap (λ (n : ℕ). n - at) (length_bits s)

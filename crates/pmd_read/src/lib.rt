@@ -1,3 +1,4 @@
+#![tactic(auto)]
 // Reads PMD values into lent numbers. A value is judged and counted in a first pass and stored in a second, so that a refusal changes nothing.
 ghost use Rattle.std.specs.Prelude.{◌≡◌, cond, ◌+◌, ◌-◌, ◌*◌, ◌<◌, ◌≤◌, eqb, length};
 ghost use Rattle.bits.specs.Bits.{field_at};

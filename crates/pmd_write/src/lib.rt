@@ -1,3 +1,4 @@
+#![tactic(auto)]
 // Writes lists of numbers as PMD values. A list is judged and weighed in a first pass and put in a second, so that a refusal changes nothing.
 ghost use Rattle.std.specs.Prelude.{◌≡◌, cond, ◌*◌, length};
 ghost use Rattle.refusals.specs.Outcomes.{answered};

@@ -1,0 +1,20 @@
+-- `pmd_write::put_turnarounds` meets its contract. Its loops keep what those of `put` keep, by the steps of a turnaround.
+use Prim.Native.Nat.{◌-◌, ◌<◌}
+use lib.ListN.{length}
+use Rattle.pmd.proofs.Turnarounds.{left_at, Strides}
+use Rattle.pmd.proofs.Frame.{Frame}
+use Rattle.pmd_write.proofs.Laid.{InTurn}
+use Rattle.pmd_write.proofs.Inked.{Inked}
+use Rattle.pmd_write.proofs.put_turnarounds.Given as goal
+
+abbrev pub invariant-loop-i-2 : goal.invariant-loop-i-2
+invariant-loop-i-2 l = Strides (InTurn (Inked l.pen l.out) l.numbers l.n) l.initial.n l.initial.i l.n l.i × Frame l.initial.out l.initial.pen.at l.out l.pen.at
+
+abbrev pub decreases-loop-i-2 : goal.decreases-loop-i-2
+decreases-loop-i-2 l = length l.numbers - l.n
+
+abbrev pub invariant-loop-i : goal.invariant-loop-i
+invariant-loop-i l = InTurn (Inked l.pen l.out) l.numbers l.n (left_at l.i) × (l.i < 8) × Frame l.initial.out l.initial.pen.at l.out l.pen.at
+
+abbrev pub decreases-loop-i : goal.decreases-loop-i
+decreases-loop-i l = length l.numbers - l.n
