@@ -62,4 +62,4 @@ bench:
 	bench/run
 
 clean:
-	rm -rf target bench/target reference/target tests/target tests/fuzz/target
+	rm -rf target crates/*/out bench/target reference/target tests/target tests/fuzz/target
