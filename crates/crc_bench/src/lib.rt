@@ -1,5 +1,4 @@
 // The CRC as a C function, for the benchmark alone.
-#![tactic(auto)]
 ghost use Rattle.std.specs.Prelude.{◌≡◌};
 ghost use Rattle.crc.specs.Crc.{crc_of};
 
