@@ -7,8 +7,8 @@
 #                   (default /usr/local; libraries in LIBDIR below it, default lib), in DESTDIR if given
 #   make uninstall  remove them again
 #   make deb        the Debian packages ballastwren and libballastwren-dev
-#   make test       the gate, from nothing: the same as .ci/run
-#   make check      prove what has changed and run the programs, quickly
+#   make test       the gate: the same as .ci/run
+#   make check      prove what has changed, quickly
 #   make fuzz       compare archive and reference on what a fuzzer finds, for SECONDS (default 60)
 #   make bench      speeds beside the reference's, and the CRC's beside libavutil's
 #   make clean      remove everything that was built
@@ -53,7 +53,7 @@ test:
 	.ci/run
 
 check:
-	rt check
+	rt all check
 
 fuzz: lib
 	ARCH=$(ARCH) tests/fuzz.sh $(or $(SECONDS),60)
@@ -62,4 +62,4 @@ bench:
 	bench/run
 
 clean:
-	rm -rf target bench/target reference/target tests/target tests/fuzz/target
+	rm -rf target crates/*/out bench/target reference/target tests/target tests/fuzz/target

@@ -15,15 +15,18 @@ SHARED = $(BUILT)/lib/$(LINKED).$(VERSION)
 
 lib: $(ARCHIVE) $(SHARED)
 
-$(ARCHIVE): $(shell packaging/sources.sh ballastwren)
+# The crate that an archive is built of, and its sources.
+$(ARCHIVE): CRATE = ballastwren_c
+$(ARCHIVE): $(shell packaging/sources.sh ballastwren_c)
+$(BUILT)/lib/libcrc_bench.a: CRATE = crc_bench
 $(BUILT)/lib/libcrc_bench.a: $(shell packaging/sources.sh crc_bench)
 
 # What is missing is said before the proof. Who has no Rattle kit, as root may not, can install what somebody else built, but
 # not what is older than its sources.
-$(BUILT)/lib/lib%.a: packaging/archive.sh packaging/clang.sh
+$(BUILT)/lib/lib%.a: packaging/archive.sh
 	@command -v rt >/dev/null || { echo "$@ is missing, or older than $(firstword $?), and the Rattle kit's 'rt' is not on PATH: 'make lib' as one who has it" >&2; exit 1; }
 	@command -v $(firstword $(CC)) >/dev/null || { echo "there is no $(firstword $(CC)): install it, or name a compiler for $(ARCH) by CC=" >&2; exit 1; }
-	packaging/archive.sh $* $(ARCH) $@
+	packaging/archive.sh $(CRATE) $(ARCH) $@
 
 $(SHARED): $(ARCHIVE) packaging/exports.map $(HEADER)
 	$(CC) -shared -o $@ -Wl,-soname,$(SONAME) -Wl,--version-script,packaging/exports.map -Wl,--no-undefined -Wl,-z,relro,-z,now \

@@ -55,7 +55,7 @@ installs_nothing_old() {
 make -s command >/dev/null || exit 1
 check "make alone names what there is to make" lists_goals
 check "what is current is not built again" current
-for file in crates.txt crates/runs/specs/Digits.antt crates/scrub/src/lib.rt crates/pmd/proofs packaging/archive.sh packaging/clang.sh; do
+for file in crates.txt crates/runs/specs/Digits.antt crates/scrub/src/lib.rt crates/pmd/proofs crates/ballastwren_c/src/lib.rt packaging/archive.sh; do
     check "library and command are old after $file" older "$file" command
 done
 check "the command is old after include/ballastwren.h" older include/ballastwren.h command

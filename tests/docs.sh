@@ -3,7 +3,7 @@
 # (in the file that follows it in brackets, or on the page of promises), every form of docs/FORMS.md stands at its line, every heading of
 # docs/DECISIONS.md is in its index, every must-fail edit says which wrong answer it is, the border between trusted and inner specifications
 # is the one that the promises draw, every public function stands once in docs/GUARANTEES.md under the law that it has one outcome, and the version
-# that is promised is the header's and the newest of CHANGELOG.md.
+# that is promised is the header's and the newest of CHANGELOG.md, and what is exported to C is what crates/ballastwren promises.
 # Ends with 'N passed, M failed'.
 set -uo pipefail
 cd "$(dirname "$0")/.." || exit 2
@@ -11,6 +11,7 @@ cd "$(dirname "$0")/.." || exit 2
 passed=0 failed=0
 pages=(README.md CHANGELOG.md CONTRIBUTING.md SECURITY.md docs/*.md)
 promises=crates/promises/proofs/Promises.antt
+ours=$(sed -nE 's/^([a-z0-9_]+)( staticlib)?:.*/\1/p' crates.txt | paste -sd '|')
 
 # told GOOD WHAT: counts a check, and says what failed.
 told() {
@@ -37,16 +38,31 @@ theorems_with_files() {
     for page in "${pages[@]}"; do
         while read -r name file; do
             if stated "$name" "$file"; then told yes; else told no "$page: $name is not stated in $file"; fi
-        done < <(tr '\n' ' ' <"$page" | grep -oE '`[A-Za-z0-9-]+` \(crates/[A-Za-z0-9_/]+\.antt\)' | sed -E 's/`([^`]+)` \((.*)\)/\1 \2/' | sort -u)
+        done < <(tr '\n' ' ' <"$page" | grep -oE '`[A-Za-z0-9_]+` \(crates/[A-Za-z0-9_/]+\.antt\)' | sed -E 's/`([^`]+)` \((.*)\)/\1 \2/' | sort -u)
     done
 }
 
-# every hyphenated name in backquotes of GUARANTEES that no file follows: stated on the page of promises.
+# specified NAME TEXT: whether TEXT names it, alone or as one of several, before a file of specs/ that states it.
+specified() {
+    local file
+    for file in $(grep -oE "\`$1\`((,| and) \`[A-Za-z0-9_]+\`)* \(crates/[a-z0-9_]+/specs/[A-Za-z0-9]+\.antt\)" <<<"$2" | grep -oE 'crates/[^)]*' | sort -u); do
+        stated "$1" "$file" && return
+    done
+    return 1
+}
+
+# every name with an underscore in backquotes of GUARANTEES that no file follows: stated on the page of promises, unless it is a public function's, or a
+# definition's of specs/ that the page names with its file.
 theorems_promised() {
-    local name
+    local name text
+    text=$(tr '\n' ' ' <docs/GUARANTEES.md)
     while read -r name; do
-        if stated "$name" "$promises"; then told yes; else told no "docs/GUARANTEES.md: $name is not on the page of promises"; fi
-    done < <(tr '\n' ' ' <docs/GUARANTEES.md | sed -E 's/`[A-Za-z0-9-]+` \(crates[^)]*\)//g' | grep -oE '`[a-z]+(-[a-z0-9]+)+`' | tr -d '`' | sort -u)
+        if stated "$name" "$promises" || grep -qE "^pub fn $name[<(]" crates/*/src/*.rt || specified "$name" "$text"; then
+            told yes
+        else
+            told no "docs/GUARANTEES.md: $name is not on the page of promises"
+        fi
+    done < <(sed -E 's/`[A-Za-z0-9_]+` \(crates[^)]*\)//g' <<<"$text" | grep -oE '`[a-z]+(_[a-z0-9]+)+`' | tr -d '`' | sort -u)
 }
 
 # `form`, file:line of docs/FORMS.md: the line has the form's name.
@@ -57,14 +73,15 @@ forms() {
     done < <(grep -oE '`[A-Za-z0-9_]+`, crates/[A-Za-z0-9_/]+\.rt:[0-9]+' docs/FORMS.md | sed -E 's/`([^`]+)`, (.*):([0-9]+)/\1 \2 \3/')
 }
 
-# specs_used FILE: the specification files that its `use` lines name.
+# specs_used FILE: the specification files of our crates that its `use` lines name.
 specs_used() {
-    sed -nE 's/^ *(ghost )?use Rattle·([a-z_]+)(\.specs|·specs\.specs)\.([A-Za-z0-9]+).*/crates\/\2\/specs\/\4.antt/p' "$1" | grep -v '/declared\.antt$'
+    sed -nE 's/^ *(ghost )?use Rattle\.([a-z0-9_]+)\.specs\.([A-Za-z0-9]+).*/crates\/\2\/specs\/\3.antt/p' "$1" |
+        grep -E "^crates/($ours)/" | grep -v '/declared\.antt$'
 }
 
 # trusted_specs: the specification files that the page of promises, the contracts of the exports and the demands rest on.
 trusted_specs() {
-    local file used todo=("$promises" crates/promises/proofs/Bench.antt crates/ballastwren/src/lib.rt crates/demands/src/lib.rt)
+    local file used todo=("$promises" crates/promises/proofs/Bench.antt crates/ballastwren{,_c}/src/lib.rt crates/demands/src/lib.rt)
     local -A seen=()
     while [[ ${#todo[@]} -gt 0 ]]; do
         file=${todo[0]}
@@ -116,7 +133,7 @@ index() {
     done < <(sed -nE 's/^- \[([^]]*)\].*/\1/p' docs/DECISIONS.md)
 }
 
-# functions: each public function as CRATE::NAME, and its contract on the same line.
+# functions: each public function as CRATE::NAME, and on the same line its clauses on what it answers and leaves, each behind a '|'.
 functions() {
     awk '/^pub (extern "C" )?fn / {
             name = $0; sub(/^pub (extern "C" )?fn /, "", name); sub(/[<(].*/, "", name)
@@ -124,8 +141,8 @@ functions() {
         }
         name != "" { text = text " " $0 }
         name != "" && /^\{$/ {
-            text = substr(text, index(text, " ensures { λ ")); sub(/^ ensures \{ λ [a-z_]+\. ⌜ /, "", text)
-            print crate "::" name " " text; name = ""
+            gsub(/\|/, "", text); gsub(/ ensures ([a-z_]+ )?\{ /, "|", text)
+            print crate "::" name " " (index(text, "|") ? substr(text, index(text, "|")) : ""); name = ""
         }' crates/*/src/*.rt
 }
 
@@ -137,13 +154,14 @@ equations() {
         END { exit !(fields > 0 && others == 0) }' crates/*/specs/*.antt
 }
 
-# formed HEADING CONTRACT: whether the contract has the form that the heading speaks of.
+# formed HEADING CLAUSES: whether one of the clauses has the form that the heading speaks of.
 formed() {
+    local word
     case $1 in
-    "An equation with a definition") [[ $2 =~ ^\(?(r|n|now r|now \([a-z]+ \.exit\))\ ≡\  ]] ;;
-    "Bytes or numbers written from a place on") [[ $2 == "Wrote "* || $2 == *") × Wrote "* ]] ;;
-    "A call that is lent a run") [[ $2 =~ ^(Delivered|Scrubs|Bw[A-Za-z]+)\  ]] ;;
-    "A record of equations") equations "${2%% *}" ;;
+    "An equation with a definition") [[ $2 =~ \|\(?(result|result\.now|[a-z]+\.new)\ ≡\  ]] ;;
+    "Bytes or numbers written from a place on") [[ $2 == *"|Wrote "* || $2 == *") × Wrote "* ]] ;;
+    "A call that is lent a run") [[ $2 =~ \|(Delivered|Scrubs|Bw[A-Za-z]+)\  ]] ;;
+    "A record of equations") for word in $(grep -oE '\|[A-Za-z]+' <<<"$2" | tr -d '|'); do equations "$word" && return; done; return 1 ;;
     *) [[ -n $2 ]] ;;
     esac
 }
@@ -170,6 +188,30 @@ outcomes() {
     if grep -qF -- "$line" <<<"$section"; then told yes; else told no "docs/GUARANTEES.md: there are $line"; fi
 }
 
+# exported CRATE: the functions bw_… of a crate: names and types of what they take and answer, and their clauses, with nothing of how they are called.
+exported() { sed -nE '/^pub (extern "C" )?fn bw_/,/^\{/ { s/^pub (extern "C" )?fn /fn /; p }' "crates/$1/src/lib.rt"; }
+
+# imported CRATE: what its clauses name, each with the module that it is from.
+imported() {
+    sed -nE 's/^ghost use (Rattle\.[A-Za-z0-9_.]+)\.\{(.*)\};$/\1 \2/p' "crates/$1/src/lib.rt" |
+        awk '{ module = $1; $1 = ""; n = split($0, name, ","); for (k = 1; k <= n; k++) { gsub(/ /, "", name[k]); print module "." name[k] } }' | sort -u
+}
+
+# crates/ballastwren_c exports each function of crates/ballastwren to C, with the same clauses in words that mean the same, by a call of it and nothing else.
+exports() {
+    local name arguments call
+    if diff <(exported ballastwren) <(exported ballastwren_c); then told yes; else told no "crates/ballastwren_c does not promise what crates/ballastwren does"; fi
+    if [[ -z $(comm -13 <(imported ballastwren) <(imported ballastwren_c)) ]]; then told yes; else told no "crates/ballastwren_c names what crates/ballastwren does not"; fi
+    while read -r name arguments; do
+        call=$(grep -A 1 '^#\[unsafe(no_mangle)\]$' crates/ballastwren_c/src/lib.rt | grep -cE "^pub extern \"C\" fn $name\(")
+        if [[ $call == 1 ]] && sed -n "/^pub extern \"C\" fn $name(/,/^}/p" crates/ballastwren_c/src/lib.rt | sed '1,/^{$/d' | diff - <(printf '    ballastwren::%s(%s)\n}\n' "$name" "$arguments"); then
+            told yes
+        else
+            told no "crates/ballastwren_c: $name is no call of ballastwren::$name"
+        fi
+    done < <(sed -nE 's/^pub fn (bw_[a-z_]+)\((.*)\).*/\1 \2/p' crates/ballastwren/src/lib.rt | sed -E 's/([a-z]+): &mut [^,]*/\&mut *\1/g; s/([a-z]+): [^,]*/\1/g')
+}
+
 # The three numbers of the version: those of the specification are the header's, and the header's text and the newest part of CHANGELOG.md say the same.
 version() {
     local part held parts=()
@@ -191,6 +233,7 @@ border
 edits
 index
 outcomes
+exports
 version
 echo "$passed passed, $failed failed"
 [[ $failed -eq 0 ]]

@@ -16,15 +16,15 @@ told() {
 
 # cited FILE...: the files of specs/ and proofs/ whose modules the files name.
 cited() {
-    grep -ohE 'Rattle·[a-z0-9_]+(·specs|·proofs)?\.(specs|proofs)\.[A-Za-z0-9_]+' "$@" |
-        sed -E 's#^Rattle·([a-z0-9_]+)(·specs|·proofs)?\.(specs|proofs)\.(.*)$#crates/\1/\3/\4.antt#' | sort -u
+    grep -ohE 'Rattle\.[a-z0-9_]+\.(specs|proofs)\.[A-Za-z0-9_]+' "$@" |
+        sed -E 's#^Rattle\.([a-z0-9_]+)\.(specs|proofs)\.(.*)$#crates/\1/\2/\3.antt#' | sort -u
 }
 
 # every file that is reached from what must stand.
 reached() {
     local -A seen=()
     local todo=() next file
-    mapfile -t todo < <(find crates -path '*/proofs/*/Proof.antt'; ls crates/*/src/*.rt crates/promises/proofs/*.antt
+    mapfile -t todo < <(find crates/*/proofs -mindepth 2 -name '*.antt'; find crates/*/src -name '*.rt'; ls crates/promises/proofs/*.antt
         grep -ohE 'crates/[a-z0-9_]+/(specs|proofs)/[A-Za-z0-9_]+\.antt' docs/GUARANTEES.md)
     while [[ ${#todo[@]} -gt 0 ]]; do
         next=()
@@ -49,7 +49,7 @@ laws() {
     local used file name
     while read -r used file name; do
         if [[ $used == yes ]] || grep -qF -- "\`$name\`" "${pages[@]}"; then told yes; else told no "nothing uses $name of $file"; fi
-    done < <(find crates \( -name '*.antt' -o -name '*.rt' \) -print0 | xargs -0 awk '
+    done < <(find crates/*/{src,specs,proofs} \( -name '*.antt' -o -name '*.rt' \) -print0 2>/dev/null | xargs -0 awk '
         { line = $0; sub(/--.*/, "", line); own = "" }
         match(line, /^ *[^ ]+ /) {
             n = split(line, w, " "); k = 1; public = 0

@@ -1,7 +1,7 @@
 #!/usr/bin/env bash
 # The command `ballastwren` tried as it is used: every subcommand, good and bad input, exit statuses, what happens when a
 # write fails or is interrupted, and 100,000 files of random bytes. Ends with 'N passed, M failed'.
-#   ARCH, ARCHIVE, CC, RUN  see tests/tools.sh        LIST  what runs the program `list`; by default target/bin/list
+#   ARCH, ARCHIVE, CC, RUN  see tests/tools.sh        LIST  what runs the program `list`; by default crates/list/out/list
 set -uo pipefail
 cd "$(dirname "${BASH_SOURCE[0]}")/../.." || exit 2
 export LC_ALL=C.UTF-8

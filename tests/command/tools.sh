@@ -6,7 +6,7 @@ T=$(mktemp -d) || exit 2
 chmod 755 "$T"
 trap 'rm -rf "$T"' EXIT
 
-: "${LIST:=$(emulator x86_64) $PWD/target/bin/list}" # the toolchain's programs are for x86-64
+: "${LIST:=$(emulator x86_64) $PWD/crates/list/out/list}" # the toolchain's programs are for x86-64
 SAMPLES=$PWD/samples
 BW=$T/ballastwren         # the command, started as the machine needs it
 FAILING=$T/failing        # the same over tests/command/fail.c
@@ -26,11 +26,18 @@ starter() {
     chmod 755 "$1"
 }
 
-# need_list: what runs the program `list`, whose C library is the cross compiler's.
+# need_list: what runs the program `list`, whose C library is the cross compiler's; and that program, which `rt ci` leaves where it is looked for.
 need_list() {
-    local run
+    local run sources built=crates/list/out/list
     run=$(emulator x86_64)
-    [[ -z $run ]] || { need "${run%% *}" qemu-user && need x86_64-linux-gnu-gcc gcc-x86-64-linux-gnu; }
+    [[ -z $run ]] || { need "${run%% *}" qemu-user && need x86_64-linux-gnu-gcc gcc-x86-64-linux-gnu; } || return
+    [[ $LIST == *"/$built" ]] || return 0
+    mapfile -t sources < <(packaging/sources.sh list)
+    if [[ ! -x $built || -n $(find "${sources[@]}" -maxdepth 0 -newer "$built") ]]; then
+        rm -f "$built"
+        (cd crates/list && rt run) </dev/null >/dev/null 2>&1
+    fi
+    [[ -x $built ]] || { echo "there is no program list at $built: rt run in crates/list"; return 1; }
 }
 
 build_all() {

@@ -1,4 +1,4 @@
-// What C calls: include/ballastwren.h says it for the C programmer. Slices pass as a pointer and a length, answers as a struct of numbers.
+// What C calls, through crates/ballastwren_c: include/ballastwren.h says it for the C programmer. Answers are structs of numbers.
 // No function here asks anything of its caller, keeps a state or takes memory.
 ghost use Rattle.std.specs.Prelude.{◌≡◌};
 ghost use Rattle.pack.specs.Reading.{checked};
@@ -114,8 +114,7 @@ fn told_found(found: Found) -> ToldFound
 }
 
 // Checks a pack. Answers how many items and inner payloads it has, or the refusal and its place.
-#[unsafe(no_mangle)]
-pub extern "C" fn bw_check(pack: &[u8]) -> Told
+pub fn bw_check(pack: &[u8]) -> Told
     ensures { result ≡ told_of (checked pack.now) }
 {
     let a = pack_check::check(pack);
@@ -124,8 +123,7 @@ pub extern "C" fn bw_check(pack: &[u8]) -> Told
 
 // Reads a pack into `rows`, eight numbers a row: the pack's row, then one for each item and inner payload in order. Answers how many numbers were
 // written, or the refusal: those of bw_check, then NOROOM. Numbers after those written do not change; a refusal changes none.
-#[unsafe(no_mangle)]
-pub extern "C" fn bw_read(pack: &[u8], rows: &mut [u32]) -> Told
+pub fn bw_read(pack: &[u8], rows: &mut [u32]) -> Told
     ensures { BwRead pack.now rows.old result rows.new }
 {
     let a = pack_rows::rows(pack, &mut *rows);
@@ -134,8 +132,7 @@ pub extern "C" fn bw_read(pack: &[u8], rows: &mut [u32]) -> Told
 
 // Scrubs a pack by the bytes of a keep sheet into `out`. Answers the length of the new pack, or the refusal: SHEET, those of bw_check, then NOROOM.
 // What follows the new pack in `out` becomes 0; a refusal changes nothing.
-#[unsafe(no_mangle)]
-pub extern "C" fn bw_scrub(sheet: &[u8], pack: &[u8], out: &mut [u8]) -> Told
+pub fn bw_scrub(sheet: &[u8], pack: &[u8], out: &mut [u8]) -> Told
     ensures { BwScrub sheet.now pack.now out.old result out.new }
 {
     let a = scrub::scrub(sheet, pack, &mut *out);
@@ -143,8 +140,7 @@ pub extern "C" fn bw_scrub(sheet: &[u8], pack: &[u8], out: &mut [u8]) -> Told
 }
 
 // Judges a keep sheet alone. Answers how many labels and tag numbers stand on it, none on the one that keeps all, or SHEET as bw_scrub would.
-#[unsafe(no_mangle)]
-pub extern "C" fn bw_sheet_check(sheet: &[u8]) -> Told
+pub fn bw_sheet_check(sheet: &[u8]) -> Told
     ensures { result ≡ told_of (sheet_checked sheet.now) }
 {
     let a = scrub_sheet::check(sheet);
@@ -153,8 +149,7 @@ pub extern "C" fn bw_sheet_check(sheet: &[u8]) -> Told
 
 // Looks a label up in two packs. Answers where the value of its first payload stands, in main or, if main has none, in backup, and its total offset; or the
 // refusal: those of bw_check for main, those for backup, then ABSENT, also for a label that is not of 16 bytes.
-#[unsafe(no_mangle)]
-pub extern "C" fn bw_lookup(main: &[u8], backup: &[u8], label: &[u8]) -> ToldFound
+pub fn bw_lookup(main: &[u8], backup: &[u8], label: &[u8]) -> ToldFound
     ensures { result ≡ told_found_of (looked_up main.now backup.now label.now) }
 {
     let found = lookup::lookup(main, backup, label);
@@ -163,8 +158,7 @@ pub extern "C" fn bw_lookup(main: &[u8], backup: &[u8], label: &[u8]) -> ToldFou
 
 // Reads a PMD value of this kind into `numbers`, all its fields in order. Answers how many numbers were written, or the refusal: KIND, BIG, those of
 // the fields with their bit as place, PAD, then NOROOM. Numbers after those written do not change; a refusal changes none.
-#[unsafe(no_mangle)]
-pub extern "C" fn bw_pmd_read(kind: u32, value: &[u8], numbers: &mut [u32]) -> Told
+pub fn bw_pmd_read(kind: u32, value: &[u8], numbers: &mut [u32]) -> Told
     ensures { BwPmdRead kind value.now numbers.old result numbers.new }
 {
     let a = pmd_read::pmd_read(kind, value, &mut *numbers);
@@ -173,8 +167,7 @@ pub extern "C" fn bw_pmd_read(kind: u32, value: &[u8], numbers: &mut [u32]) -> T
 
 // Writes `numbers` as a PMD value of this kind into `out`. Answers how many bytes were written, or the refusal: KIND, those of the list with the
 // number's index as place, then NOROOM. Bytes after those written do not change; a refusal changes none.
-#[unsafe(no_mangle)]
-pub extern "C" fn bw_pmd_write(kind: u32, numbers: &[u32], out: &mut [u8]) -> Told
+pub fn bw_pmd_write(kind: u32, numbers: &[u32], out: &mut [u8]) -> Told
     ensures { BwPmdWrite kind numbers.now out.old result out.new }
 {
     let a = pmd_write::pmd_write(kind, numbers, &mut *out);
@@ -182,8 +175,7 @@ pub extern "C" fn bw_pmd_write(kind: u32, numbers: &[u32], out: &mut [u8]) -> To
 }
 
 // What an object's gain means: muted at 0, else half decibels from -50 to 12. A gain above 63 is FIELD.
-#[unsafe(no_mangle)]
-pub extern "C" fn bw_gain(gain: u32) -> ToldGain
+pub fn bw_gain(gain: u32) -> ToldGain
     ensures { result ≡ told_gain_of (level_of gain) }
 {
     let level = pmd::gain(gain);
@@ -209,8 +201,7 @@ pub extern "C" fn bw_gain(gain: u32) -> ToldGain
 // Applies an AOD or XYZ value to a lent table of objects: an AOD sets entries whole, an XYZ moves those that are there. Answers how many records were
 // applied, or the refusal: TABLE, KIND for any other kind, those of bw_pmd_read but NOROOM, then UNKNOWN and STATIC by record, or FULL. A refusal changes no
 // entry.
-#[unsafe(no_mangle)]
-pub extern "C" fn bw_objects_apply(kind: u32, value: &[u8], table: &mut [Object]) -> Told
+pub fn bw_objects_apply(kind: u32, value: &[u8], table: &mut [Object]) -> Told
     ensures { BwApply kind value.now table.old result table.new }
 {
     let mut cells = objects_cells::room();
@@ -225,8 +216,7 @@ pub extern "C" fn bw_objects_apply(kind: u32, value: &[u8], table: &mut [Object]
 
 // Clears the entry of an element in a lent table of objects: all its fields become 0. Answers 1, or the refusal: TABLE, then UNKNOWN. A refusal changes no
 // entry.
-#[unsafe(no_mangle)]
-pub extern "C" fn bw_objects_clear(element: u32, table: &mut [Object]) -> Told
+pub fn bw_objects_clear(element: u32, table: &mut [Object]) -> Told
     ensures { BwClear element table.old result table.new }
 {
     let mut cells = objects_cells::room();
@@ -240,8 +230,7 @@ pub extern "C" fn bw_objects_clear(element: u32, table: &mut [Object]) -> Told
 }
 
 // The version of the library as one number.
-#[unsafe(no_mangle)]
-pub extern "C" fn bw_version() -> u32
+pub fn bw_version() -> u32
     ensures { result ≡ version }
 {
     MAJOR * 10000 + MINOR * 100 + PATCH
