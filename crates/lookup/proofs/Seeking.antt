@@ -28,29 +28,29 @@ use Rattle.lookup.proofs.Steps.{payload_more, plain_more, sync_more}
 
 -- THE INSIDE OF A SYNC
 
-pub record SeekingInside (q : List ℕ) (ground : Ground) (test : Name → Bool) (base fuel used n at : ℕ) (first : Sought) : Type 0 where
+pub record SeekingInside (q : List ℕ) (grounds : Ground) (test : Name → Bool) (base fuel used n at : ℕ) (first : Sought) : Type 0 where
   pub xs : List Payload
-  pub inside : WithinSync q ground base fuel used xs n at
+  pub inside : WithinSync q grounds base fuel used xs n at
   pub found : first ≡ first_in test xs
 
 -- for any fuel that is enough
 abbrev pub Within : List ℕ → Ground → (Name → Bool) → ℕ → ℕ → ℕ → ℕ → Sought → Type 0
-Within q ground test base used n at first = (fuel : ℕ) → length q ≤ fuel → SeekingInside q ground test base fuel used n at first
+Within q grounds test base used n at first = (fuel : ℕ) → length q ≤ fuel → SeekingInside q grounds test base fuel used n at first
 
-module _ {q : List ℕ} {ground : Ground} {test : Name → Bool} {base used : ℕ} where
-  pub seek_begins : used ≤ 64 → {first : Sought} → first ≡ Q.Absent → Within q ground test base used used 0 first
+module _ {q : List ℕ} {grounds : Ground} {test : Name → Bool} {base used : ℕ} where
+  pub seek_begins : used ≤ 64 → {first : Sought} → first ≡ Q.Absent → Within q grounds test base used used 0 first
   unfolding those
-  seek_begins few is fuel enough = record { xs = []; inside = inside_begins q ground base fuel used few enough; found = is }
+  seek_begins few is fuel enough = record { xs = []; inside = inside_begins q grounds base fuel used few enough; found = is }
 
-  module _ {n at : ℕ} {first : Sought} (g : Within q ground test base used n at first) where
-    pub seek_on : (wanted : ℕ) → Tells ground.tags test wanted → at < length q → {t v l : ℕ} → inner_at q at n ≡ Whole t v l → {next : Sought}
-        → next ≡ or_else first (of_tag wanted t (base + v) l ground.total) → Within q ground test base used (n + 1) (v + l) next
+  module _ {n at : ℕ} {first : Sought} (g : Within q grounds test base used n at first) where
+    pub seek_on : (wanted : ℕ) → Tells grounds.tags test wanted → at < length q → {t v l : ℕ} → inner_at q at n ≡ Whole t v l → {next : Sought}
+        → next ≡ or_else first (of_tag wanted t (base + v) l grounds.total) → Within q grounds test base used (n + 1) (v + l) next
     seek_on wanted tells h {t} {v} {l} e is fuel enough =
         let w = g fuel enough in
-        record { xs = _; inside = inside_on w.inside h e; found = payload_more test ground wanted tells w.xs (base + at) t (base + v) l (inner_other q at n t v l e) w.found is }
+        record { xs = _; inside = inside_on w.inside h e; found = payload_more test grounds wanted tells w.xs (base + at) t (base + v) l (inner_other q at n t v l e) w.found is }
 
-  module _ {n at : ℕ} {first : Spot} (g : Within q ground test base used n at (sought_of first)) where
-    pub seek_done : length q ≤ at → InsideSought q ground test base used (record { answer = A.Done n; first = first })
+  module _ {n at : ℕ} {first : Spot} (g : Within q grounds test base used n at (sought_of first)) where
+    pub seek_done : length q ≤ at → InsideSought q grounds test base used (record { answer = A.Done n; first = first })
     seek_done h = record {
       told = inside_done (λ fuel enough. record { xs = _; inside = (g fuel enough).inside }) h;
       first = λ fuel enough xs e.
@@ -60,7 +60,7 @@ module _ {q : List ℕ} {ground : Ground} {test : Name → Bool} {base used : �
     }
 
     pub seek_stops : at < length q → {why : Refusal} → inner_at q at n ≡ Wrong why → {r : Answer} → r ≡ A.Refused why (base + at)
-        → InsideSought q ground test base used (record { answer = r; first = first })
+        → InsideSought q grounds test base used (record { answer = r; first = first })
     seek_stops h {why} e is = record {
       told = inside_refused (λ fuel enough. record { xs = _; inside = (g fuel enough).inside }) h e is;
       first = λ fuel enough xs d. let stop = inside_stops (g fuel enough).inside h e in absurd_eq (cc);
@@ -73,27 +73,27 @@ on_sum {q} {tags} {test} {base} {used} {r = r} e = subst (λ (n : ℕ). InsideSo
 
 -- THE ITEMS
 
-pub record SeekingItems (s : List ℕ) (ground : Ground) (test : Name → Bool) (from n at : ℕ) (first : Sought) : Type 0 where
+pub record SeekingItems (s : List ℕ) (grounds : Ground) (test : Name → Bool) (from n at : ℕ) (first : Sought) : Type 0 where
   pub parts : List Part
-  pub coming : Coming s ground from parts n at
+  pub coming : Coming s grounds from parts n at
   pub found : first ≡ first_in test (payloads_of parts)
 
-pub items_begin : (s : List ℕ) (ground : Ground) (test : Name → Bool) (from : ℕ) {first : Sought} → first ≡ Q.Absent → SeekingItems s ground test from 0 from first
+pub items_begin : (s : List ℕ) (grounds : Ground) (test : Name → Bool) (from : ℕ) {first : Sought} → first ≡ Q.Absent → SeekingItems s grounds test from 0 from first
 unfolding payloads_of those
-items_begin s ground test from is = record { parts = []; coming = coming_begins s ground from; found = is }
+items_begin s grounds test from is = record { parts = []; coming = coming_begins s grounds from; found = is }
 
-module _ {s : List ℕ} {ground : Ground} {test : Name → Bool} {from n at : ℕ} {first : Sought} (g : SeekingItems s ground test from n at first) (h : at < length s) where
-  pub plain_on : (wanted : ℕ) → Tells ground.tags test wanted → {t v l : ℕ} → item_at s at n ≡ S.Plain t v l → {next : Sought} → next ≡ or_else first (of_tag wanted t v l ground.total)
-      → SeekingItems s ground test from (n + 1) (v + l) next
+module _ {s : List ℕ} {grounds : Ground} {test : Name → Bool} {from n at : ℕ} {first : Sought} (g : SeekingItems s grounds test from n at first) (h : at < length s) where
+  pub plain_on : (wanted : ℕ) → Tells grounds.tags test wanted → {t v l : ℕ} → item_at s at n ≡ S.Plain t v l → {next : Sought} → next ≡ or_else first (of_tag wanted t v l grounds.total)
+      → SeekingItems s grounds test from (n + 1) (v + l) next
   plain_on wanted tells {t} {v} {l} e is =
-      record { parts = _; coming = coming_plain g.coming h e; found = plain_more test ground wanted tells g.parts at t v l (plain_other s at n t v l e) g.found is }
+      record { parts = _; coming = coming_plain g.coming h e; found = plain_more test grounds wanted tells g.parts at t v l (plain_other s at n t v l e) g.found is }
 
   -- a Sync, by what was sought in its inside, as the code cuts it
-  pub open_on : {v l : ℕ} → item_at s at n ≡ S.Open v l → {r : Inside} → InsideSought (take (v + l - (v + 4)) (drop (v + 4) s)) (sync_ground s ground v) test (v + 4) (n + 1) r
-      → {k : ℕ} → r.answer ≡ A.Done k → (k ≡ n + 1 → ⊥) → {next : Sought} → next ≡ or_else first (sought_of r.first) → SeekingItems s ground test from k (v + l) next
+  pub open_on : {v l : ℕ} → item_at s at n ≡ S.Open v l → {r : Inside} → InsideSought (take (v + l - (v + 4)) (drop (v + 4) s)) (sync_ground s grounds v) test (v + 4) (n + 1) r
+      → {k : ℕ} → r.answer ≡ A.Done k → (k ≡ n + 1 → ⊥) → {next : Sought} → next ≡ or_else first (sought_of r.first) → SeekingItems s grounds test from k (v + l) next
   open_on {v} {l} e {r} i d some is =
       let on = sync_on g.coming h e i.told d some in
-      let own = subst (λ (q : List ℕ). InsideSought q (sync_ground s ground v) test (v + 4) (n + 1) r) (inside_part s v l) i in
+      let own = subst (λ (q : List ℕ). InsideSought q (sync_ground s grounds v) test (v + 4) (n + 1) r) (inside_part s v l) i in
       record {
         parts = _;
         coming = on.3;

@@ -65,13 +65,13 @@ module _ (test : Name → Bool) where
       ap first_at (those_append passes xs ys) ∙ first_append (those passes xs) (those passes ys)
 
   -- one payload more
-  pub payload_more : (ground : Ground) (wanted : ℕ) → Tells ground.tags test wanted → (xs : List Payload) {first next : Sought} (start t v l : ℕ) → (t ≡ 1 → ⊥)
-      → first ≡ first_in test xs → next ≡ or_else first (of_tag wanted t v l ground.total) → next ≡ first_in test (xs ++ (payload ground start t v l ∷ []))
+  pub payload_more : (grounds : Ground) (wanted : ℕ) → Tells grounds.tags test wanted → (xs : List Payload) {first next : Sought} (start t v l : ℕ) → (t ≡ 1 → ⊥)
+      → first ≡ first_in test xs → next ≡ or_else first (of_tag wanted t v l grounds.total) → next ≡ first_in test (xs ++ (payload grounds start t v l ∷ []))
   unfolding those of_tag
-  payload_more ground wanted tells xs start t v l other found is =
-      let one : of_tag wanted t v l ground.total ≡ first_in test (payload ground start t v l ∷ []) =
+  payload_more grounds wanted tells xs start t v l other found is =
+      let one : of_tag wanted t v l grounds.total ≡ first_in test (payload grounds start t v l ∷ []) =
       split (eqb t wanted) (λ e. simp (tells t other ∙ e, e)) (λ e. simp (tells t other ∙ e, e)) in
-      is ∙ ap₂ or_else found one ∙ sym (in_append xs (payload ground start t v l ∷ []))
+      is ∙ ap₂ or_else found one ∙ sym (in_append xs (payload grounds start t v l ∷ []))
 
   -- one part more
   more : (ps : List Part) (x : Part) → payloads_of (ps ++ (x ∷ [])) ≡ payloads_of ps ++ payloads_of (x ∷ [])
@@ -80,12 +80,12 @@ module _ (test : Name → Bool) where
   more (one y ∷ ps) x = ap (λ (xs : List Payload). y ∷ xs) (more ps x)
   more (many h ys ∷ ps) x = ap (λ (xs : List Payload). ys ++ xs) (more ps x) ∙ sym (append_assoc ys (payloads_of ps) (payloads_of (x ∷ [])))
 
-  pub plain_more : (ground : Ground) (wanted : ℕ) → Tells ground.tags test wanted → (ps : List Part) {first next : Sought} (start t v l : ℕ) → (t ≡ 1 → ⊥)
-      → first ≡ first_in test (payloads_of ps) → next ≡ or_else first (of_tag wanted t v l ground.total)
-      → next ≡ first_in test (payloads_of (ps ++ (one (payload ground start t v l) ∷ [])))
+  pub plain_more : (grounds : Ground) (wanted : ℕ) → Tells grounds.tags test wanted → (ps : List Part) {first next : Sought} (start t v l : ℕ) → (t ≡ 1 → ⊥)
+      → first ≡ first_in test (payloads_of ps) → next ≡ or_else first (of_tag wanted t v l grounds.total)
+      → next ≡ first_in test (payloads_of (ps ++ (one (payload grounds start t v l) ∷ [])))
   unfolding payloads_of
-  plain_more ground wanted tells ps start t v l other found is =
-      payload_more ground wanted tells (payloads_of ps) start t v l other found is ∙ sym (ap (first_in test) (more ps (one (payload ground start t v l))))
+  plain_more grounds wanted tells ps start t v l other found is =
+      payload_more grounds wanted tells (payloads_of ps) start t v l other found is ∙ sym (ap (first_in test) (more ps (one (payload grounds start t v l))))
 
   pub sync_more : (ps : List Part) (h : Head) (xs : List Payload) {first inside next : Sought} → first ≡ first_in test (payloads_of ps) → inside ≡ first_in test xs
       → next ≡ or_else first inside → next ≡ first_in test (payloads_of (ps ++ (many h xs ∷ [])))

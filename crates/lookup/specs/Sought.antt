@@ -52,9 +52,9 @@ unfoldable pub wanted_tag : List ℕ → List ℕ → List ℕ → List ℕ → 
 wanted_tag s l tags places = cond (eqb (length l) 16) (tag_for s l tags places) 1
 
 -- the inside of a Sync: its count or its refusal, and what its first payload has that is sought
-pub record InsideSought (q : List ℕ) (ground : Ground) (test : Name → Bool) (base used : ℕ) (r : Inside) : Type 0 where
-  pub told : InsideTold q ground base used r.answer
-  pub first : (fuel : ℕ) → length q ≤ fuel → (xs : List Payload) → inners_from fuel q ground base 0 used ≡ fine xs → sought_of r.first ≡ first_in test xs
+pub record InsideSought (q : List ℕ) (grounds : Ground) (test : Name → Bool) (base used : ℕ) (r : Inside) : Type 0 where
+  pub told : InsideTold q grounds base used r.answer
+  pub first : (fuel : ℕ) → length q ≤ fuel → (xs : List Payload) → inners_from fuel q grounds base 0 used ≡ fine xs → sought_of r.first ≡ first_in test xs
 
 -- the items of a pack
 unfoldable pub sought_body : (Name → Bool) → Outcome Body → Sought

@@ -29,64 +29,64 @@ use Rattle.pack.proofs.Turns.{mappings_end, mappings_turn, inners_on, inners_end
 
 -- THE PAYLOADS OF A PART
 
-module _ (q : List ℕ) (ground : Ground) (base : ℕ) where
+module _ (q : List ℕ) (grounds : Ground) (base : ℕ) where
   -- j steps do as well as k from wherever k are enough
   abbrev InnersSame : ℕ → ℕ → Type 0
-  InnersSame j k = (at used : ℕ) → length q ≤ at + k → inners_from j q ground base at used ≡ inners_from k q ground base at used
+  InnersSame j k = (at used : ℕ) → length q ≤ at + k → inners_from j q grounds base at used ≡ inners_from k q grounds base at used
 
   inners_on_lem : (j k : ℕ) → InnersSame j k → (at used : ℕ) → length q ≤ at + suc k → (r : Found) → inner_at q at used ≡ r
-      → inners_on q ground base at used j r ≡ inners_on q ground base at used k r
+      → inners_on q grounds base at used j r ≡ inners_on q grounds base at used k r
   inners_on_lem j k same at used h (Whole t v l) e =
-      ap (λ (o : Outcome (List Payload)). and_then o (λ xs. fine (payload ground (base + at) t (base + v) l ∷ xs)))
+      ap (λ (o : Outcome (List Payload)). and_then o (λ xs. fine (payload grounds (base + at) t (base + v) l ∷ xs)))
       (same (v + l) (used + 1) (omega (arith, h, (inner_within q at used t v l e).later)))
   inners_on_lem j k same at used h (Wrong why) e = refl
 
-  inners_enough : (more k : ℕ) → k ≤ more → (at used : ℕ) → length q ≤ at + k → inners_from more q ground base at used ≡ inners_from k q ground base at used
-  inners_enough more zero le at used h = inners_end q ground base at used more (omega arith) ∙ sym (inners_end q ground base at used zero (omega arith))
+  inners_enough : (more k : ℕ) → k ≤ more → (at used : ℕ) → length q ≤ at + k → inners_from more q grounds base at used ≡ inners_from k q grounds base at used
+  inners_enough more zero le at used h = inners_end q grounds base at used more (omega arith) ∙ sym (inners_end q grounds base at used zero (omega arith))
   inners_enough zero (suc k) le at used h = absurd (omega arith)
   inners_enough (suc j) (suc k) le at used h =
       split (ltb at (length q))
       (λ l.
       let there = ltb-true at (length q) l in
-      inners_turn q ground base at used j refl there refl
+      inners_turn q grounds base at used j refl there refl
       ∙ inners_on_lem j k (inners_enough j k (omega arith)) at used h (inner_at q at used) refl
-      ∙ sym (inners_turn q ground base at used k refl there refl))
+      ∙ sym (inners_turn q grounds base at used k refl there refl))
       (λ l.
       let gone = ltb-false at (length q) l in
-      inners_end q ground base at used (suc j) gone ∙ sym (inners_end q ground base at used (suc k) gone))
+      inners_end q grounds base at used (suc j) gone ∙ sym (inners_end q grounds base at used (suc k) gone))
 
 -- THE ITEMS
 
-module _ (s : List ℕ) (ground : Ground) where
+module _ (s : List ℕ) (grounds : Ground) where
   abbrev ItemsSame : ℕ → ℕ → Type 0
-  ItemsSame j k = (at used : ℕ) → length s ≤ at + k → items_from j s ground at used ≡ items_from k s ground at used
+  ItemsSame j k = (at used : ℕ) → length s ≤ at + k → items_from j s grounds at used ≡ items_from k s grounds at used
 
   items_on_lem : (j k : ℕ) → ItemsSame j k → (at used : ℕ) → length s ≤ at + suc k → (r : Step) → item_at s at used ≡ r
-      → items_on s ground at used j r ≡ items_on s ground at used k r
+      → items_on s grounds at used j r ≡ items_on s grounds at used k r
   items_on_lem j k same at used h (S.Plain t v l) e =
-      ap (λ (o : Outcome Body). and_then o (with (one (payload ground at t v l))))
+      ap (λ (o : Outcome Body). and_then o (with (one (payload grounds at t v l))))
       (same (v + l) (used + 1) (omega (arith, h, (plain_fits s at used t v l e).later)))
   items_on_lem j k same at used h (S.Open v l) e =
       let further : length s ≤ v + l + k = omega (arith, h, (open_fits s at used v l e).0.later) in
       then_same
-      (λ xs. and_then (items_from j s ground (v + l) (used + 1 + length xs)) (with (many (sync_head s at v l (length xs)) xs)))
-      (λ xs. and_then (items_from k s ground (v + l) (used + 1 + length xs)) (with (many (sync_head s at v l (length xs)) xs)))
+      (λ xs. and_then (items_from j s grounds (v + l) (used + 1 + length xs)) (with (many (sync_head s at v l (length xs)) xs)))
+      (λ xs. and_then (items_from k s grounds (v + l) (used + 1 + length xs)) (with (many (sync_head s at v l (length xs)) xs)))
       (λ xs. ap (λ (o : Outcome Body). and_then o (with (many (sync_head s at v l (length xs)) xs))) (same (v + l) (used + 1 + length xs) further))
-      (inside_of s ground at v l used)
+      (inside_of s grounds at v l used)
   items_on_lem j k same at used h (S.Close v) e = refl
   items_on_lem j k same at used h (S.Bad why) e = refl
 
-  items_enough : (more k : ℕ) → k ≤ more → (at used : ℕ) → length s ≤ at + k → items_from more s ground at used ≡ items_from k s ground at used
-  items_enough more zero le at used h = items_end s ground at used more (omega arith) ∙ sym (items_end s ground at used zero (omega arith))
+  items_enough : (more k : ℕ) → k ≤ more → (at used : ℕ) → length s ≤ at + k → items_from more s grounds at used ≡ items_from k s grounds at used
+  items_enough more zero le at used h = items_end s grounds at used more (omega arith) ∙ sym (items_end s grounds at used zero (omega arith))
   items_enough zero (suc k) le at used h = absurd (omega arith)
   items_enough (suc j) (suc k) le at used h =
       split (ltb at (length s))
       (λ l.
       let there = ltb-true at (length s) l in
-      items_turn s ground at used j refl there refl
+      items_turn s grounds at used j refl there refl
       ∙ items_on_lem j k (items_enough j k (omega arith)) at used h (item_at s at used) refl
-      ∙ sym (items_turn s ground at used k refl there refl))
-      (λ l. let gone = ltb-false at (length s) l in items_end s ground at used (suc j) gone ∙ sym (items_end s ground at used (suc k) gone))
+      ∙ sym (items_turn s grounds at used k refl there refl))
+      (λ l. let gone = ltb-false at (length s) l in items_end s grounds at used (suc j) gone ∙ sym (items_end s grounds at used (suc k) gone))
 
 -- THE MAPPINGS
 
@@ -140,12 +140,12 @@ module _ (c : List ℕ) (place : ℕ) where
 few : (n : ℕ) (xs : List ℕ) → length (take n xs) ≤ n
 few n xs = simp length-take (omega arith)
 
-pub fuel_enough : (s : List ℕ) (ground : Ground) (more at v l used : ℕ)
-    → (length s ≤ more → items_from more s ground at used ≡ items_from (length s) s ground at used)
-    × (l ≤ more → inners_from more (take (l - 4) (drop (v + 4) s)) ground (v + 4) 0 used ≡ inners_from l (take (l - 4) (drop (v + 4) s)) ground (v + 4) 0 used)
+pub fuel_enough : (s : List ℕ) (grounds : Ground) (more at v l used : ℕ)
+    → (length s ≤ more → items_from more s grounds at used ≡ items_from (length s) s grounds at used)
+    × (l ≤ more → inners_from more (take (l - 4) (drop (v + 4) s)) grounds (v + 4) 0 used ≡ inners_from l (take (l - 4) (drop (v + 4) s)) grounds (v + 4) 0 used)
     × (l ≤ more → mappings_from more (take (v + l) s) at [] (v + 2) ≡ mappings_from l (take (v + l) s) at [] (v + 2))
-fuel_enough s ground more at v l used = (
-  λ h. items_enough s ground more (length s) h at used (omega arith),
-  λ h. inners_enough (take (l - 4) (drop (v + 4) s)) ground (v + 4) more l h 0 used (omega (arith, few (l - 4) (drop (v + 4) s))),
+fuel_enough s grounds more at v l used = (
+  λ h. items_enough s grounds more (length s) h at used (omega arith),
+  λ h. inners_enough (take (l - 4) (drop (v + 4) s)) grounds (v + 4) more l h 0 used (omega (arith, few (l - 4) (drop (v + 4) s))),
   λ h. mappings_enough (take (v + l) s) at more l h [] (v + 2) (omega (arith, few (v + l) s)),
 )

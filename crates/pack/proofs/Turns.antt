@@ -62,40 +62,40 @@ module _ (c : List ℕ) (place : ℕ) (seen : List Mapping) (at : ℕ) where
       mapping_fine g d = simp (lt-leb _ _ h, e, le-ltb _ _ g, d)
 
 -- the payloads of a part
-module _ (q : List ℕ) (ground : Ground) (base at used : ℕ) where
+module _ (q : List ℕ) (grounds : Ground) (base at used : ℕ) where
   -- what is read by what stands there
   abbrev pub inners_on : ℕ → Found → Outcome (List Payload)
   inners_on j r =
-      case_found r (λ t v l. and_then (inners_from j q ground base (v + l) (used + 1)) (λ xs. fine (payload ground (base + at) t (base + v) l ∷ xs)))
+      case_found r (λ t v l. and_then (inners_from j q grounds base (v + l) (used + 1)) (λ xs. fine (payload grounds (base + at) t (base + v) l ∷ xs)))
       (λ why. refused why (base + at))
 
-  pub inners_end : (k : ℕ) → length q ≤ at → inners_from k q ground base at used ≡ fine []
+  pub inners_end : (k : ℕ) → length q ≤ at → inners_from k q grounds base at used ≡ fine []
   unfolding inners_from
   inners_end zero h = refl
   inners_end (suc k) h = simp (le-ltb _ _ h)
 
-  pub inners_turn : {k : ℕ} (j : ℕ) → k ≡ suc j → at < length q → {r : Found} → inner_at q at used ≡ r → inners_from k q ground base at used ≡ inners_on j r
+  pub inners_turn : {k : ℕ} (j : ℕ) → k ≡ suc j → at < length q → {r : Found} → inner_at q at used ≡ r → inners_from k q grounds base at used ≡ inners_on j r
   unfolding inners_from
-  inners_turn j d h e = ap (λ (n : ℕ). inners_from n q ground base at used) d ∙ simp (lt-ltb _ _ h, e)
+  inners_turn j d h e = ap (λ (n : ℕ). inners_from n q grounds base at used) d ∙ simp (lt-ltb _ _ h, e)
 
 -- the items
-module _ (s : List ℕ) (ground : Ground) (at used : ℕ) where
+module _ (s : List ℕ) (grounds : Ground) (at used : ℕ) where
   abbrev pub items_on : ℕ → Step → Outcome Body
   items_on j r =
-      case_step r (λ t v l. and_then (items_from j s ground (v + l) (used + 1)) (with (one (payload ground at t v l))))
-      (λ v l. and_then (inside_of s ground at v l used)
-      (λ xs. and_then (items_from j s ground (v + l) (used + 1 + length xs)) (with (many (sync_head s at v l (length xs)) xs))))
+      case_step r (λ t v l. and_then (items_from j s grounds (v + l) (used + 1)) (with (one (payload grounds at t v l))))
+      (λ v l. and_then (inside_of s grounds at v l used)
+      (λ xs. and_then (items_from j s grounds (v + l) (used + 1 + length xs)) (with (many (sync_head s at v l (length xs)) xs))))
       (λ v. cond (crc_good s v) (fine (record { parts = []; crc = true })) (refused R.Crc at))
       (λ why. refused why at)
 
-  pub items_end : (k : ℕ) → length s ≤ at → items_from k s ground at used ≡ fine (record { parts = []; crc = false })
+  pub items_end : (k : ℕ) → length s ≤ at → items_from k s grounds at used ≡ fine (record { parts = []; crc = false })
   unfolding items_from
   items_end zero h = refl
   items_end (suc k) h = simp (le-ltb _ _ h)
 
-  pub items_turn : {k : ℕ} (j : ℕ) → k ≡ suc j → at < length s → {r : Step} → item_at s at used ≡ r → items_from k s ground at used ≡ items_on j r
+  pub items_turn : {k : ℕ} (j : ℕ) → k ≡ suc j → at < length s → {r : Step} → item_at s at used ≡ r → items_from k s grounds at used ≡ items_on j r
   unfolding items_from
-  items_turn j d h e = ap (λ (n : ℕ). items_from n s ground at used) d ∙ simp (lt-ltb _ _ h, e)
+  items_turn j d h e = ap (λ (n : ℕ). items_from n s grounds at used) d ∙ simp (lt-ltb _ _ h, e)
 
 -- a Sync holds at least one payload
 pub inside_none : (at : ℕ) (xs : List Payload) → length xs ≡ 0 → some_inside at xs ≡ refused R.Sync at

@@ -8,6 +8,6 @@ use Rattle.pack.specs.Payloads.{Ground, inners_from}
 use Rattle.pack.specs.declared.Payload.{Payload}
 
 -- the count of the payloads of an inside q, with the `used` before them; fuel, if it is enough, does not matter
-pub record InsideTold (q : List ℕ) (ground : Ground) (base used : ℕ) (r : Answer) : Type 0 where
-  pub told : (k : ℕ) → length q ≤ k → r ≡ answered (λ (xs : List Payload). used + length xs) (inners_from k q ground base 0 used)
+pub record InsideTold (q : List ℕ) (grounds : Ground) (base used : ℕ) (r : Answer) : Type 0 where
+  pub told : (k : ℕ) → length q ≤ k → r ≡ answered (λ (xs : List Payload). used + length xs) (inners_from k q grounds base 0 used)
   pub few : (n : ℕ) → r ≡ A.Done n → n ≤ item_cap

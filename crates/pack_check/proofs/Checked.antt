@@ -28,11 +28,11 @@ module _ (s : List ℕ) where
 
   -- a count of the items from where they start on, which holds for any ground
   pub checked_next : {o : Opening} {n : ℕ} {a : Answer} → opening s ≡ fine o → n ≡ o.next
-      → ((ground : Ground) → a ≡ answered counted (items_from (length s) s ground n 0)) → a ≡ checked s
+      → ((grounds : Ground) → a ≡ answered counted (items_from (length s) s grounds n 0)) → a ≡ checked s
   unfolding checked read_from
   checked_next {o} e next h =
-      let ground = pack_ground o.offset o.mappings in
-      h ground
-      ∙ ap (λ (k : ℕ). answered counted (items_from (length s) s ground k 0)) next
-      ∙ body_count o (items_from (length s) s ground o.next 0)
+      let grounds = pack_ground o.offset o.mappings in
+      h grounds
+      ∙ ap (λ (k : ℕ). answered counted (items_from (length s) s grounds k 0)) next
+      ∙ body_count o (items_from (length s) s grounds o.next 0)
       ∙ sym (ap (answered (λ (r : Read). count_of r.body.parts)) (reading_opens s ∙ then_fine (read_from s) e))

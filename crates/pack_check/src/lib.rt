@@ -15,7 +15,7 @@ use refusals::{Answer, Refusal};
 // before.
 fn count_inside(q: &[u8], base: usize, used: usize) -> Answer
     requires { (used ≤ 64) × (base + length q.now ≤ 32768) }
-    ensures { (ground : Ground) → InsideTold q.now ground base used result }
+    ensures { (grounds : Ground) → InsideTold q.now grounds base used result }
 {
     let mut n = used;
     let mut at: usize = 0;
@@ -41,7 +41,7 @@ fn count_inside(q: &[u8], base: usize, used: usize) -> Answer
 // The items of the pack from `from` on.
 fn count_items(s: &[u8], from: usize) -> Answer
     requires { length s.now ≤ 32768 }
-    ensures { (ground : Ground) → result ≡ answered counted (items_from (length s.now) s.now ground from 0) }
+    ensures { (grounds : Ground) → result ≡ answered counted (items_from (length s.now) s.now grounds from 0) }
 {
     let mut n: usize = 0;
     let mut at = from;

@@ -1,3 +1,4 @@
+#![tactic(auto)]
 // Config: the pack offset, and the mappings of tags to labels, which go into tables.
 ghost use Rattle.std.specs.Prelude.{◌≡◌, [], ℕ, ◌+◌, ◌≤◌, length, take, drop};
 ghost use Rattle.runs.specs.Same.{among, listed};

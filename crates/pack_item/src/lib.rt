@@ -1,3 +1,4 @@
+#![tactic(auto)]
 // One payload or item of a pack: what stands at a place, and whether the CRC that stands there is the pack's.
 ghost use Rattle.std.specs.Prelude.{◌≡◌, ◌+◌, ◌≤◌, length};
 ghost use Rattle.pack.specs.Payloads.{payload_at, inner_at};

@@ -113,29 +113,29 @@ name_from_fits i (x ∷ tags) t low high =
 name_fits : (tags : List ℕ) (t : ℕ) → 3 < t → t < 128 ^ 4 → NameFits (length tags) (name_of tags t)
 name_fits tags t low high = subst (λ (n : ℕ). NameFits n (name_of tags t)) (zero-add (length tags)) (name_from_fits 0 tags t low high)
 
-inners_lie : (s : List ℕ) {q : List ℕ} {ground : Ground} {base at used : ℕ} {xs : List Payload} → Bytes q → base + length q ≤ length s → ground.total < 2 ^ 32
-    → InnersRead q ground base at used xs → Each (PayloadLies s (length ground.tags)) xs
+inners_lie : (s : List ℕ) {q : List ℕ} {grounds : Ground} {base at used : ℕ} {xs : List Payload} → Bytes q → base + length q ≤ length s → grounds.total < 2 ^ 32
+    → InnersRead q grounds base at used xs → Each (PayloadLies s (length grounds.tags)) xs
 inners_lie s b room fits (none_inside h) = tt
-inners_lie s {q} {ground} b room fits (next_inside {at = at} t v l e h u r) =
+inners_lie s {q} {grounds} b room fits (next_inside {at = at} t v l e h u r) =
     let x = payload_within q at t v l e in
     let d = payload_laid q at t v l b e in
-    (record { starts = omega arith; ends = omega arith; named = name_fits ground.tags t h d.high; total = fits }, inners_lie s b room fits r)
+    (record { starts = omega arith; ends = omega arith; named = name_fits grounds.tags t h d.high; total = fits }, inners_lie s b room fits r)
 
-items_lie : (s : List ℕ) {ground : Ground} {at used : ℕ} {parts : List Part} {mark : Bool} → Bytes s → ground.total < 2 ^ 32
-    → ItemsRead s ground at used parts mark → Each (PartLies s (length ground.tags)) parts
+items_lie : (s : List ℕ) {grounds : Ground} {at used : ℕ} {parts : List Part} {mark : Bool} → Bytes s → grounds.total < 2 ^ 32
+    → ItemsRead s grounds at used parts mark → Each (PartLies s (length grounds.tags)) parts
 items_lie s b fits (ended h) = tt
 items_lie s b fits (closed v e z c) = tt
-items_lie s {ground} b fits (next_plain {at = at} t v l e h u r) =
+items_lie s {grounds} b fits (next_plain {at = at} t v l e h u r) =
     let x = payload_within s at t v l e in
     let d = payload_laid s at t v l b e in
-    (record { starts = x.later; ends = x.inside; named = name_fits ground.tags t h d.high; total = fits }, items_lie s b fits r)
-items_lie s {ground} b fits (next_sync {at = at} v l xs e h u n inner r) =
+    (record { starts = x.later; ends = x.inside; named = name_fits grounds.tags t h d.high; total = fits }, items_lie s b fits r)
+items_lie s {grounds} b fits (next_sync {at = at} v l xs e h u n inner r) =
     let x = payload_within s at 2 v l e in
     let q = take (l - 4) (drop (v + 4) s) in
     let room : v + 4 + length q ≤ length s = simp (length-take, length-drop) (omega arith) in
     let head : HeadLies s (sync_head s at v l (length xs)) xs =
     record { starts = x.later; ends = x.inside; long = h; offset = big_lt s v 2 b; duration = big_lt s (v + 2) 2 b; count = refl; some = n } in
-    ((head, inners_lie s (part_bytes s (v + 4) (l - 4) b) room (sum_lt ground.total (extended (big_at s v 2))) inner), items_lie s b fits r)
+    ((head, inners_lie s (part_bytes s (v + 4) (l - 4) b) room (sum_lt grounds.total (extended (big_at s v 2))) inner), items_lie s b fits r)
 
 -- labels that stand in the front of a list stand in it
 labels_lie : {c : List ℕ} {at : ℕ} {seen more : List Mapping} (s : List ℕ) (m : ℕ) → c ≡ take m s → MappingsRead c at seen more → Each (LabelLies s) more

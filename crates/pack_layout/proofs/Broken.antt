@@ -138,6 +138,27 @@ broken_element p at R.Length b (bad_length t z g e h) =
     let x = tag_next p at t n a in
     let y : drop n p ≡ z = stands_past p at (tag_bytes t) z e in
     (omega arith, found_forbidden p at t n a (bad_length_lem p n b x.1 (subst NoLength (sym y) h)))
+broken_element p at R.Big b x = elim x [ ]
+broken_element p at R.Short b x = elim x [ ]
+broken_element p at R.Key b x = elim x [ ]
+broken_element p at R.Trail b x = elim x [ ]
+broken_element p at R.Place b x = elim x [ ]
+broken_element p at R.Count b x = elim x [ ]
+broken_element p at R.Config b x = elim x [ ]
+broken_element p at R.Map b x = elim x [ ]
+broken_element p at R.Sync b x = elim x [ ]
+broken_element p at R.Crc b x = elim x [ ]
+broken_element p at R.Sheet b x = elim x [ ]
+broken_element p at R.NoRoom b x = elim x [ ]
+broken_element p at R.Bits b x = elim x [ ]
+broken_element p at R.Field b x = elim x [ ]
+broken_element p at R.Pad b x = elim x [ ]
+broken_element p at R.Kind b x = elim x [ ]
+broken_element p at R.Absent b x = elim x [ ]
+broken_element p at R.Table b x = elim x [ ]
+broken_element p at R.Unknown b x = elim x [ ]
+broken_element p at R.Static b x = elim x [ ]
+broken_element p at R.Full b x = elim x [ ]
 
 -- z lacks some bytes to be a tag and its label
 pub record EntryLacks (z : List ℕ) : Type 0 where

@@ -41,7 +41,7 @@ closed_by d w (crc form) fits closing small =
     let x = config_bytes d.first in
     let y = chunks_bytes cs in
     let same : form_bytes form 4 ≡ form_bytes form (length c) = ap (form_bytes form) (sym four) in
-    pack_laid (before ++ c) (element 3 form c) _ (λ ground. closes_crc (before ++ c) before ground form refl closing) cs w.count w.items d.form n d.first
+    pack_laid (before ++ c) (element 3 form c) _ (λ grounds. closes_crc (before ++ c) before grounds form refl closing) cs w.count w.items d.form n d.first
     (grouped key (form_bytes d.form n) x y t f c ∙ ap (λ (g : List ℕ). key ++ (form_bytes d.form n ++ (x ++ (y ++ (t ++ (g ++ c)))))) same)
     (counted x y t f c 4 four ∙ ap (λ (g : List ℕ). length (x ++ (y ++ (t ++ (g ++ c))))) same)
     (fits.0, omega (arith, fits.1, length-append t f)) small w.opening

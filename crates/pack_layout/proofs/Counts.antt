@@ -12,11 +12,11 @@ use Rattle.pack.specs.Items.{Part, count_of}
 use Rattle.pack_layout.proofs.Accepts.{InnersRead, none_inside, next_inside, ItemsRead, ended, closed, next_plain, next_sync}
 use Rattle.pack_layout.proofs.Opens.{MappingsRead, none_mapped, next_mapped}
 
-pub inners_count : {q : List ℕ} {ground : Ground} {base at used : ℕ} {xs : List Payload} → InnersRead q ground base at used xs → used ≤ item_cap → used + length xs ≤ item_cap
+pub inners_count : {q : List ℕ} {grounds : Ground} {base at used : ℕ} {xs : List Payload} → InnersRead q grounds base at used xs → used ≤ item_cap → used + length xs ≤ item_cap
 inners_count (none_inside h) u = omega arith
 inners_count (next_inside {xs = xs} t v l e h room r) u = let i = inners_count r (omega arith) in omega arith
 
-pub items_count : {s : List ℕ} {ground : Ground} {at used : ℕ} {parts : List Part} {mark : Bool} → ItemsRead s ground at used parts mark → used ≤ item_cap
+pub items_count : {s : List ℕ} {grounds : Ground} {at used : ℕ} {parts : List Part} {mark : Bool} → ItemsRead s grounds at used parts mark → used ≤ item_cap
     → used + count_of parts ≤ item_cap
 unfolding count_of
 items_count (ended h) u = omega arith

@@ -57,7 +57,7 @@ record ElementsDescribed (q : List ℕ) (at n : ℕ) : Type 0 where
   stands : drop at q ≡ elements_bytes elements
   count : length elements ≡ n
 
-inners_described : {q : List ℕ} {ground : Ground} {base at used : ℕ} {ps : List Payload} → Bytes q → InnersRead q ground base at used ps → ElementsDescribed q at (length ps)
+inners_described : {q : List ℕ} {grounds : Ground} {base at used : ℕ} {ps : List Payload} → Bytes q → InnersRead q grounds base at used ps → ElementsDescribed q at (length ps)
 unfolding elements_bytes
 inners_described {q} b (none_inside h) = record { elements = []; well = tt; stands = drop_of_length-le q h; count = refl }
 inners_described {q} b (next_inside {at = at} t v l e h u r) =
@@ -129,8 +129,8 @@ module _ (s : List ℕ) (b : Bytes s) where
       ∙ ap (λ (y : List ℕ). digits 256 2 (big_at s (v + 2) 2) ++ y) (ap₂ (λ (m n : ℕ). take m (drop n s)) x (add_assoc v 2 2)))
 
   -- a Sync that is read
-  pub sync_described : {ground : Ground} {base used : ℕ} {ps : List Payload} (at v l : ℕ) → payload_at s at ≡ Whole 2 v l → 4 ≤ l → 0 < length ps
-      → InnersRead (take (l - 4) (drop (v + 4) s)) ground base 0 used ps → SyncDescribed s at (v + l) (length ps)
+  pub sync_described : {grounds : Ground} {base used : ℕ} {ps : List Payload} (at v l : ℕ) → payload_at s at ≡ Whole 2 v l → 4 ≤ l → 0 < length ps
+      → InnersRead (take (l - 4) (drop (v + 4) s)) grounds base 0 used ps → SyncDescribed s at (v + l) (length ps)
   sync_described at v l e h n inner =
       let d = payload_laid s at 2 v l b e in
       let x = payload_within s at 2 v l e in
@@ -155,7 +155,7 @@ module _ (s : List ℕ) (b : Bytes s) where
         count = j.count;
       }
 
-  pub items_described : {ground : Ground} {at used : ℕ} {parts : List Part} {mark : Bool} → ItemsRead s ground at used parts mark → ChunksDescribed s at (count_of parts)
+  pub items_described : {grounds : Ground} {at used : ℕ} {parts : List Part} {mark : Bool} → ItemsRead s grounds at used parts mark → ChunksDescribed s at (count_of parts)
   unfolding chunks_bytes chunks_count count_of
   items_described (ended h) = record {
     chunks = [];

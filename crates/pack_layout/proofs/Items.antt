@@ -27,35 +27,35 @@ use Rattle.pack_layout.proofs.Accepts.{InnersRead, none_inside, next_inside, Ite
 use Rattle.crc.proofs.Serial.{crc_lt}
 
 -- the payloads inside a Sync are read, and mean the elements xs
-record InnersLaid (s : List ℕ) (ground : Ground) (labels : List (List ℕ)) (ms : List Entry) (q : List ℕ) (base at used : ℕ) (xs : List Element) : Type 0 where
+record InnersLaid (s : List ℕ) (grounds : Ground) (labels : List (List ℕ)) (ms : List Entry) (q : List ℕ) (base at used : ℕ) (xs : List Element) : Type 0 where
   found : List Payload
-  reads : InnersRead q ground base at used found
+  reads : InnersRead q grounds base at used found
   means : map (meant_payload s labels) found ≡ map (said_element ms) xs
 
 -- a Sync's payloads are read where its value stands at v, and it means its two numbers and the elements xs
-pub record GroupLaid (s : List ℕ) (ground : Ground) (labels : List (List ℕ)) (ms : List Entry) (at v used o d : ℕ) (xs : List Element) : Type 0 where
+pub record GroupLaid (s : List ℕ) (grounds : Ground) (labels : List (List ℕ)) (ms : List Entry) (at v used o d : ℕ) (xs : List Element) : Type 0 where
   pub found : List Payload
-  pub reads : InnersRead (take (length (group_bytes o d xs) - 4) (drop (v + 4) s)) (sync_ground s ground v) (v + 4) 0 (used + 1) found
+  pub reads : InnersRead (take (length (group_bytes o d xs) - 4) (drop (v + 4) s)) (sync_ground s grounds v) (v + 4) 0 (used + 1) found
   pub count : length found ≡ length xs
   pub long : 4 ≤ length (group_bytes o d xs)
   pub means : meant_part s labels (many (sync_head s at v (length (group_bytes o d xs)) (length found)) found) ≡ sync o d (map (said_element ms) xs)
 
 -- the items are read, and mean the chunks cs
-pub record ItemsLaid (s : List ℕ) (ground : Ground) (labels : List (List ℕ)) (ms : List Entry) (at used : ℕ) (cs : List Chunk) (mark : Bool) : Type 0 where
+pub record ItemsLaid (s : List ℕ) (grounds : Ground) (labels : List (List ℕ)) (ms : List Entry) (at used : ℕ) (cs : List Chunk) (mark : Bool) : Type 0 where
   pub found : List Part
-  pub reads : ItemsRead s ground at used found mark
+  pub reads : ItemsRead s grounds at used found mark
   pub means : map (meant_part s labels) found ≡ map (said_chunk ms) cs
 
 -- under mappings by which each tag means what the description says
-module _ (s : List ℕ) (ground : Ground) (labels : List (List ℕ)) (ms : List Entry) (names : (t : ℕ) → meant_name labels (name_of ground.tags t) ≡ entry_for ms t) where
+module _ (s : List ℕ) (grounds : Ground) (labels : List (List ℕ)) (ms : List Entry) (names : (t : ℕ) → meant_name labels (name_of grounds.tags t) ≡ entry_for ms t) where
   meant_element : (x : Element) (start from : ℕ) (rest : List ℕ) → drop from s ≡ x.value ++ rest
-      → meant_payload s labels (payload ground start x.tag from (length x.value)) ≡ said_element ms x
+      → meant_payload s labels (payload grounds start x.tag from (length x.value)) ≡ said_element ms x
   meant_element x start from rest e =
       ap₂ (λ (n : SaidName) (v : List ℕ). record { name = n; value = v }) (names x.tag)
       (ap (take (length x.value)) e ∙ take_at x.value rest (length x.value) refl)
 
   inners_laid : (xs : List Element) (q rest : List ℕ) (base at used : ℕ) → drop base s ≡ q ++ rest → drop at q ≡ elements_bytes xs
-      → used + length xs ≤ item_cap → WellElements xs → InnersLaid s ground labels ms q base at used xs
+      → used + length xs ≤ item_cap → WellElements xs → InnersLaid s grounds labels ms q base at used xs
   unfolding elements_bytes
   inners_laid [] q rest base at used b e u w = record { found = []; reads = none_inside {at = at} (omega (arith, length-drop at q, ap length e)); means = refl }
   inners_laid (x ∷ xs) q rest base at used b e u w =
@@ -66,15 +66,15 @@ module _ (s : List ℕ) (ground : Ground) (labels : List (List ℕ)) (ms : List 
       let stands : drop (base + v) s ≡ x.value ++ (elements_bytes xs ++ rest) =
       part_stands s base q rest v (x.value ++ elements_bytes xs) b (omega (arith, r.ends)) r.stands ∙ append_assoc x.value (elements_bytes xs) rest in
       record {
-        found = payload ground (base + at) x.tag (base + v) l ∷ i.found;
+        found = payload grounds (base + at) x.tag (base + v) l ∷ i.found;
         reads = next_inside {used = used} x.tag v l r.found w.0.above (omega arith) i.reads;
         means = ap₂ (λ (y : SaidPayload) (ys : List SaidPayload). y ∷ ys) (meant_element x (base + at) (base + v) (elements_bytes xs ++ rest) stands) i.means;
       }
 
 -- on a ground that a Sync adds to, and the tags are the same
-module _ (s : List ℕ) (ground : Ground) (labels : List (List ℕ)) (ms : List Entry) (names : (t : ℕ) → meant_name labels (name_of ground.tags t) ≡ entry_for ms t) where
+module _ (s : List ℕ) (grounds : Ground) (labels : List (List ℕ)) (ms : List Entry) (names : (t : ℕ) → meant_name labels (name_of grounds.tags t) ≡ entry_for ms t) where
   pub group_laid : (at v used o d : ℕ) (xs : List Element) (rest : List ℕ) {form : ℕ} → drop v s ≡ group_bytes o d xs ++ rest → used + 1 + length xs ≤ item_cap
-      → WellGroup form o d xs → GroupLaid s ground labels ms at v used o d xs
+      → WellGroup form o d xs → GroupLaid s grounds labels ms at v used o d xs
   group_laid at v used o d xs rest e u w =
       let inside = elements_bytes xs in
       let l = length (group_bytes o d xs) in
@@ -82,21 +82,21 @@ module _ (s : List ℕ) (ground : Ground) (labels : List (List ℕ)) (ms : List 
       let size = part.size in
       let first = two_back s v o ((digits 256 2 d ++ inside) ++ rest) (e ∙ append_assoc (digits 256 2 o) (digits 256 2 d ++ inside) rest) w.offset in
       let second = two_back s (v + 2) d (inside ++ rest) (first.1 ∙ append_assoc (digits 256 2 d) inside rest) w.duration in
-      let i = inners_laid s (sync_ground s ground v) labels ms names xs inside rest (v + 4) 0 (used + 1) part.stands refl u w.all in
+      let i = inners_laid s (sync_ground s grounds v) labels ms names xs inside rest (v + 4) 0 (used + 1) part.stands refl u w.all in
       let same = i.means in
       let offset = first.0 in
       let duration = second.0 in
       record {
         found = i.found;
-        reads = subst (λ (q : List ℕ). InnersRead q (sync_ground s ground v) (v + 4) 0 (used + 1) i.found) (sym part.part) i.reads;
+        reads = subst (λ (q : List ℕ). InnersRead q (sync_ground s grounds v) (v + 4) 0 (used + 1) i.found) (sym part.part) i.reads;
         count = sym (length-map i.found (meant_payload s labels)) ∙ ap length i.means ∙ length-map xs (said_element ms);
         long = omega arith;
         means = cc;
       }
 
   -- the items up to `tail`, which closes the pack wherever it stands
-  module _ (tail : List ℕ) (mark : Bool) (closes : (at used : ℕ) → drop at s ≡ tail → ItemsRead s ground at used [] mark) where
-    pub items_laid : (cs : List Chunk) (at used : ℕ) → drop at s ≡ chunks_bytes cs ++ tail → used + chunks_count cs ≤ item_cap → WellChunks cs → ItemsLaid s ground labels ms at used cs mark
+  module _ (tail : List ℕ) (mark : Bool) (closes : (at used : ℕ) → drop at s ≡ tail → ItemsRead s grounds at used [] mark) where
+    pub items_laid : (cs : List Chunk) (at used : ℕ) → drop at s ≡ chunks_bytes cs ++ tail → used + chunks_count cs ≤ item_cap → WellChunks cs → ItemsLaid s grounds labels ms at used cs mark
     unfolding chunks_bytes chunks_count
     items_laid [] at used e u w = record { found = []; reads = closes at used e; means = refl }
     items_laid (plain x ∷ cs) at used e u w =
@@ -107,9 +107,9 @@ module _ (s : List ℕ) (ground : Ground) (labels : List (List ℕ)) (ms : List 
         let l = length x.value in
         let i = items_laid cs (v + l) (used + 1) r.next (omega arith) w.1 in
         record {
-          found = one (payload ground at x.tag v l) ∷ i.found;
+          found = one (payload grounds at x.tag v l) ∷ i.found;
           reads = next_plain {used = used} x.tag v l r.found w.0.above (omega arith) i.reads;
-          means = ap₂ (λ (y : SaidPayload) (ys : List SaidItem). single y ∷ ys) (meant_element s ground labels ms names x at v rest r.stands) i.means;
+          means = ap₂ (λ (y : SaidPayload) (ys : List SaidItem). single y ∷ ys) (meant_element s grounds labels ms names x at v rest r.stands) i.means;
         }
     items_laid (group form o d xs ∷ cs) at used e u w =
         let value = group_bytes o d xs in
@@ -126,8 +126,8 @@ module _ (s : List ℕ) (ground : Ground) (labels : List (List ℕ)) (ms : List 
         }
 
 -- a pack without CRC ends where its items end
-pub closes_bare : (s : List ℕ) (ground : Ground) (at used : ℕ) → drop at s ≡ [] → ItemsRead s ground at used [] false
-closes_bare s ground at used e = ended {at = at} (omega (arith, length-drop at s, ap length e))
+pub closes_bare : (s : List ℕ) (grounds : Ground) (at used : ℕ) → drop at s ≡ [] → ItemsRead s grounds at used [] false
+closes_bare s grounds at used e = ended {at = at} (omega (arith, length-drop at s, ap length e))
 
 -- each form can hold the length of a CRC
 pub four_fits : (form : ℕ) → 4 < reach form
@@ -136,9 +136,9 @@ four_fits zero = omega arith
 four_fits (suc k) = le_trans (omega arith) (pow-le-pow_right (omega arith) (let h : 1 ≤ suc k = omega arith in h))
 
 -- a CRC that is laid out is good
-pub closes_crc : (s before : List ℕ) (ground : Ground) (form : ℕ) → s ≡ before ++ digits 256 4 (crc_of before) → form ≤ longest → (at used : ℕ)
-    → drop at s ≡ element 3 form (digits 256 4 (crc_of before)) → ItemsRead s ground at used [] true
-closes_crc s before ground form e m at used h =
+pub closes_crc : (s before : List ℕ) (grounds : Ground) (form : ℕ) → s ≡ before ++ digits 256 4 (crc_of before) → form ≤ longest → (at used : ℕ)
+    → drop at s ≡ element 3 form (digits 256 4 (crc_of before)) → ItemsRead s grounds at used [] true
+closes_crc s before grounds form e m at used h =
     let c = digits 256 4 (crc_of before) in
     let four : length c ≡ 4 = length_digits 256 4 (crc_of before) in
     let r = element_back s at 3 form c [] (h ∙ sym (append-nil (element 3 form c))) (omega arith) (omega arith) (m, rw four (four_fits form)) in

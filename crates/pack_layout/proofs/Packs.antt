@@ -63,7 +63,7 @@ start_laid s body form n e m fits small =
     }
 
 -- what begins with an item, or with what closes a pack, does not begin with a Config
-no_config_lem : {s : List ℕ} {ground : Ground} {at used : ℕ} {parts : List Part} {mark : Bool} → ItemsRead s ground at used parts mark
+no_config_lem : {s : List ℕ} {grounds : Ground} {at used : ℕ} {parts : List Part} {mark : Bool} → ItemsRead s grounds at used parts mark
     → (v l : ℕ) → payload_at s at ≡ Whole 1 v l → ⊥
 no_config_lem {s} {at = at} (ended h) v l e = let x = payload_within s at 1 v l e in omega arith
 no_config_lem (closed w f z c) v l e = absurd_eq (let i = sym f ∙ e in cc)
@@ -117,7 +117,7 @@ names_mean mappings ms e t =
     ap₂ (λ (ls : List (List ℕ)) (ts : List ℕ). meant_name ls (name_of ts t)) (sym (labels_entries mappings)) (sym (tags_entries mappings))
     ∙ name_means (map entry_of mappings) t ∙ ap (λ (l : List Entry). entry_for l t) e
 
-module _ (s tail : List ℕ) (mark : Bool) (closes : (ground : Ground) (at used : ℕ) → drop at s ≡ tail → ItemsRead s ground at used [] mark)
+module _ (s tail : List ℕ) (mark : Bool) (closes : (grounds : Ground) (at used : ℕ) → drop at s ≡ tail → ItemsRead s grounds at used [] mark)
     (cs : List Chunk) (count : chunks_count cs ≤ item_cap) (well : WellChunks cs) where
   items_at : (offset : ℕ) (mappings : List Mapping) (ms : List Entry) → map entry_of mappings ≡ ms → (at : ℕ) → drop at s ≡ chunks_bytes cs ++ tail
       → ItemsLaid s (pack_ground offset mappings) (labels_of mappings) ms at 0 cs mark

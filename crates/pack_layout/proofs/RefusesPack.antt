@@ -107,7 +107,7 @@ module _ (s : List ℕ) (b : Bytes s) where
   -- items that are wrong after what is laid out well
   items_back : {used place : ℕ} {why : Refusal} (start content w : List ℕ) → Framed s start (content ++ w) → Front content used
       → (length content ≡ 0 → (at : ℕ) → drop at s ≡ w → (v l : ℕ) → payload_at s at ≡ Whole 1 v l → ⊥)
-      → ((ground : Ground) (k at : ℕ) → drop at s ≡ w → length s ≤ at + k → items_from k s ground at used ≡ refused why place) → reading s ≡ refused why place
+      → ((grounds : Ground) (k at : ℕ) → drop at s ≡ w → length s ≤ at + k → items_from k s grounds at used ≡ refused why place) → reading s ≡ refused why place
   unfolding reading read_from
   items_back {used} start content w f d none stop =
       let a = frame_read s start (content ++ w) f in
@@ -118,8 +118,8 @@ module _ (s : List ℕ) (b : Bytes s) where
       a.found.stands ∙ ap (λ (l : List ℕ). l ++ w) d.is ∙ append_assoc (config_bytes first) (chunks_bytes cs) w in
       let o = opening_back s at first cs w stands d.opening d.items (λ z e. none (ap length d.is ∙ z) at e) in
       let ms = o.mappings in
-      let ground = pack_ground (offset_laid first) ms in
-      let stops = items_refused s ground (labels_of ms) (entries_laid first) (names_mean ms (entries_laid first) o.entries) w used d.few (stop ground) cs
+      let grounds = pack_ground (offset_laid first) ms in
+      let stops = items_refused s grounds (labels_of ms) (entries_laid first) (names_mean ms (entries_laid first) o.entries) w used d.few (stop grounds) cs
       (length s) o.next 0 o.stands (omega (arith, d.count)) d.items (omega arith) in
       then_fine (λ n. and_then (opening_at s n) (read_from s)) (start_run s at a.found.begins) ∙ then_fine (read_from s) (opening_run s at o.opens)
       ∙ then_refused (λ body. fine (record { offset = offset_laid first; mappings = ms; body = body })) stops
@@ -139,7 +139,7 @@ module _ (s : List ℕ) (b : Bytes s) where
   refused_back (pack_trails h form v more fits m e) = start_back (trails_start s b h form v more fits m e)
   refused_back (in_config start value c rest f h n) = config_back start value c rest f h n
   refused_back (at_item {used = used} start content w f d n) =
-      items_back start content w f d (λ z at e. none_first s at b n z e) (λ ground k at e g. no_item_refused s ground b k at used start content w n f.is e g)
+      items_back start content w f d (λ z at e. none_first s at b n z e) (λ grounds k at e g. no_item_refused s grounds b k at used start content w n f.is e g)
   refused_back (in_sync {used = used} start content w rest o d xs z f laid oFits dFits well few h n) =
       items_back start content w f laid (λ y at e v l g. omega (arith, one_there s at h e v l g))
-      (λ ground k at e g. in_sync_refused s ground b k at used o d xs w z rest well few h n e g)
+      (λ grounds k at e g. in_sync_refused s grounds b k at used o d xs w z rest well few h n e g)

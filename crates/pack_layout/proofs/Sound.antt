@@ -14,7 +14,7 @@ use Rattle.crc.specs.Crc.{crc_of}
 use Rattle.pack.specs.Fixed.{key, pack_cap}
 use Rattle.pack.specs.Reading.{Read, reading}
 use Rattle.pack.specs.Meaning.{meant}
-use Rattle.pack_layout.specs.Layout.{CrcLaid, crc, Description, chunks_bytes, config_bytes, content_bytes, before_crc, laid, layout}
+use Rattle.pack_layout.specs.Layout.{CrcLaid, Description, chunks_bytes, config_bytes, content_bytes, before_crc, laid, layout}
 use Rattle.pack_layout.specs.Well.{WellCrc, crc_size, WellFormed}
 use Rattle.pack_layout.specs.Agrees.{Sound}
 use Rattle.pack_layout.proofs.Parts.{grouped, counted}

@@ -46,7 +46,7 @@ pub record ItemsStop (s : List ℕ) (at used : ℕ) (why : Refusal) (place : ℕ
   pub wrong : WrongAt s left (used + chunks_count chunks) why place
 
 -- a Sync in which nothing was read has no bytes there
-none_read : {q : List ℕ} {ground : Ground} {base at used : ℕ} → InnersRead q ground base at used [] → length q ≤ at
+none_read : {q : List ℕ} {grounds : Ground} {base at used : ℕ} → InnersRead q grounds base at used [] → length q ≤ at
 none_read (none_inside h) = h
 
 -- a refusal after what was read inside a Sync says that it was nothing
@@ -55,7 +55,7 @@ unfolding some_inside
 none_inside_lem at [] h = (refl, cc, cc)
 none_inside_lem at (x ∷ xs) h = absurd_eq (cc)
 
-module _ (s : List ℕ) (ground : Ground) (b : Bytes s) where
+module _ (s : List ℕ) (grounds : Ground) (b : Bytes s) where
   -- nothing is right from `at` on
   stop_here : {why : Refusal} {place : ℕ} (at used : ℕ) → used ≤ item_cap → WrongAt s (drop at s) used why place → ItemsStop s at used why place
   unfolding chunks_bytes chunks_count
@@ -88,8 +88,8 @@ module _ (s : List ℕ) (ground : Ground) (b : Bytes s) where
       }
 
   -- an item where the reader stops, or after which it does
-  module _ (k at used : ℕ) {why : Refusal} {place : ℕ} (i : at < length s) (u : used ≤ item_cap) (h : items_from (suc k) s ground at used ≡ refused why place)
-      (rest : (m n : ℕ) → at < m → n ≤ item_cap → items_from k s ground m n ≡ refused why place → ItemsStop s m n why place) where
+  module _ (k at used : ℕ) {why : Refusal} {place : ℕ} (i : at < length s) (u : used ≤ item_cap) (h : items_from (suc k) s grounds at used ≡ refused why place)
+      (rest : (m n : ℕ) → at < m → n ≤ item_cap → items_from k s grounds m n ≡ refused why place → ItemsStop s m n why place) where
     -- after a payload
     stop_plain : (t v l : ℕ) → payload_at s at ≡ Whole t v l → 3 < t → used < item_cap → ItemsStop s at used why place
     unfolding chunks_bytes chunks_count
@@ -97,15 +97,15 @@ module _ (s : List ℕ) (ground : Ground) (b : Bytes s) where
         let x = payload_within s at t v l e in
         let d = element_described s at t v l b e above in
         let y = d.one in
-        let r = then_kept (items_from k s ground (v + l) (used + 1)) (λ c. record { parts = one (payload ground at t v l) ∷ c.parts; crc = c.crc })
-        (sym (turn_plain s ground k at used i t v l e above room) ∙ h) in
+        let r = then_kept (items_from k s grounds (v + l) (used + 1)) (λ c. record { parts = one (payload grounds at t v l) ∷ c.parts; crc = c.crc })
+        (sym (turn_plain s grounds k at used i t v l e above room) ∙ h) in
         more_items at used (v + l) 1 (plain y) (element y.tag y.form y.value) d.well d.stands (λ cs. refl) (λ cs. refl)
         (rest (v + l) (used + 1) (omega arith) (omega arith) r)
 
     -- after a Sync
     stop_after : (v l : ℕ) (ps : List Payload) → payload_at s at ≡ Whole 2 v l → 4 ≤ l → used < item_cap → 0 < length ps
-        → InnersRead (take (l - 4) (drop (v + 4) s)) (sync_ground s ground v) (v + 4) 0 (used + 1) ps
-        → items_from k s ground (v + l) (used + 1 + length ps) ≡ refused why place → ItemsStop s at used why place
+        → InnersRead (take (l - 4) (drop (v + 4) s)) (sync_ground s grounds v) (v + 4) 0 (used + 1) ps
+        → items_from k s grounds (v + l) (used + 1 + length ps) ≡ refused why place → ItemsStop s at used why place
     unfolding chunks_bytes chunks_count
     stop_after v l ps e long room some inner r =
         let x = payload_within s at 2 v l e in
@@ -118,22 +118,22 @@ module _ (s : List ℕ) (ground : Ground) (b : Bytes s) where
 
     -- a Sync in which nothing was read
     stop_empty : (v l : ℕ) (ps : List Payload) → payload_at s at ≡ Whole 2 v l → used < item_cap
-        → inners_from l (take (l - 4) (drop (v + 4) s)) (sync_ground s ground v) (v + 4) 0 (used + 1) ≡ fine ps → some_inside at ps ≡ refused why place → ItemsStop s at used why place
+        → inners_from l (take (l - 4) (drop (v + 4) s)) (sync_ground s grounds v) (v + 4) 0 (used + 1) ≡ fine ps → some_inside at ps ≡ refused why place → ItemsStop s at used why place
     stop_empty v l ps e room inner none =
         let q = take (l - 4) (drop (v + 4) s) in
         let x = payload_within s at 2 v l e in
         let n = none_inside_lem at ps none in
         let size : length q ≡ l - 4 = length-take-le (l - 4) (drop (v + 4) s) (simp length-drop (omega arith)) in
-        let empty = none_read (inners_of q (sync_ground s ground v) (v + 4) l 0 (used + 1) [] (simp length-take (omega arith)) (inner ∙ ap fine n.0)) in
+        let empty = none_read (inners_of q (sync_ground s grounds v) (v + 4) l 0 (used + 1) [] (simp length-take (omega arith)) (inner ∙ ap fine n.0)) in
         let few : length (take l (drop v s)) ≤ 4 = omega (arith, value_length s b at 2 v l e, size, empty) in
         stop_item at used i u n.1 n.2 (λ start content is first. empty_sync _ _ (has_laid s at 2 v l b e) room few)
 
     -- among the payloads of a Sync
-    stop_inside : (v l : ℕ) → payload_at s at ≡ Whole 2 v l → 4 ≤ l → used < item_cap → inside_of s ground at v l used ≡ refused why place → ItemsStop s at used why place
+    stop_inside : (v l : ℕ) → payload_at s at ≡ Whole 2 v l → 4 ≤ l → used < item_cap → inside_of s grounds at v l used ≡ refused why place → ItemsStop s at used why place
     stop_inside v l e long room r =
         let q = take (l - 4) (drop (v + 4) s) in
-        then_stops (inners_from l q (sync_ground s ground v) (v + 4) 0 (used + 1)) (some_inside at) r
-        (λ z. let w = inners_stop q (sync_ground s ground v) (v + 4) (part_bytes s (v + 4) (l - 4) b) l 0 (used + 1) (simp length-take (omega arith)) (omega arith) z in
+        then_stops (inners_from l q (sync_ground s grounds v) (v + 4) 0 (used + 1)) (some_inside at) r
+        (λ z. let w = inners_stop q (sync_ground s grounds v) (v + 4) (part_bytes s (v + 4) (l - 4) b) l 0 (used + 1) (simp length-take (omega arith)) (omega arith) z in
         stop_here at used u (in_group (sync_wrong s b at used v l e long w)))
         (λ ps inner none. stop_empty v l ps e room inner none)
 
@@ -141,16 +141,16 @@ module _ (s : List ℕ) (ground : Ground) (b : Bytes s) where
     stop_sync : (v l : ℕ) → payload_at s at ≡ Whole 2 v l → 4 ≤ l → used < item_cap → ItemsStop s at used why place
     stop_sync v l e long room =
         let q = take (l - 4) (drop (v + 4) s) in
-        then_stops (inside_of s ground at v l used)
-        (λ xs. and_then (items_from k s ground (v + l) (used + 1 + length xs)) (with (many (sync_head s at v l (length xs)) xs)))
-        (sym (turn_sync s ground k at used i v l e long room) ∙ h)
+        then_stops (inside_of s grounds at v l used)
+        (λ xs. and_then (items_from k s grounds (v + l) (used + 1 + length xs)) (with (many (sync_head s at v l (length xs)) xs)))
+        (sym (turn_sync s grounds k at used i v l e long room) ∙ h)
         (λ z. stop_inside v l e long room z)
-        (λ ps inside z. let j = then_was (inners_from l q (sync_ground s ground v) (v + 4) 0 (used + 1)) (some_inside at) inside in
+        (λ ps inside z. let j = then_was (inners_from l q (sync_ground s grounds v) (v + 4) 0 (used + 1)) (some_inside at) inside in
         let n = some_of at j.0 ps j.2 in
-        let inner = inners_of q (sync_ground s ground v) (v + 4) l 0 (used + 1) ps (simp length-take (omega arith)) (j.1 ∙ ap fine n.1) in
+        let inner = inners_of q (sync_ground s grounds v) (v + 4) l 0 (used + 1) ps (simp length-take (omega arith)) (j.1 ∙ ap fine n.1) in
         let c = many (sync_head s at v l (length ps)) ps in
         stop_after v l ps e long room n.0 inner
-        (then_kept (items_from k s ground (v + l) (used + 1 + length ps)) (λ body. record { parts = c ∷ body.parts; crc = body.crc }) z))
+        (then_kept (items_from k s grounds (v + l) (used + 1 + length ps)) (λ body. record { parts = c ∷ body.parts; crc = body.crc }) z))
 
     -- at a CRC of four bytes that ends the pack
     stop_crc : (v : ℕ) → payload_at s at ≡ Whole 3 v 4 → v + 4 ≡ length s → ItemsStop s at used why place
@@ -181,7 +181,7 @@ module _ (s : List ℕ) (ground : Ground) (b : Bytes s) where
     stop_found (Whole t v l) e = stop_judged t v l (judged s used t v l) e refl (judged_of s used t v l)
 
   -- the items from `at` on, with enough steps left
-  pub items_stop : (k at used : ℕ) {why : Refusal} {place : ℕ} → length s ≤ at + k → used ≤ item_cap → items_from k s ground at used ≡ refused why place
+  pub items_stop : (k at used : ℕ) {why : Refusal} {place : ℕ} → length s ≤ at + k → used ≤ item_cap → items_from k s grounds at used ≡ refused why place
       → ItemsStop s at used why place
   unfolding items_from
   items_stop zero at used g u h = absurd_eq (cc)

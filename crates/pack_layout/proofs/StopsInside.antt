@@ -37,7 +37,7 @@ pub record InnersStop (q : List ℕ) (base at used : ℕ) (why : Refusal) (place
   pub wrong : NoInner left (used + length elements) why
   pub there : place ≡ base + (length q - length left)
 
-module _ (q : List ℕ) (ground : Ground) (base : ℕ) (b : Bytes q) where
+module _ (q : List ℕ) (grounds : Ground) (base : ℕ) (b : Bytes q) where
   -- nothing is right from `at` on
   stop_inner : {why w : Refusal} {place : ℕ} (at used : ℕ) → at < length q → used ≤ item_cap → ◌≡◌ {A = Outcome (List Payload)} (refused w (base + at)) (refused why place)
       → NoInner (drop at q) used w → InnersStop q base at used why place
@@ -78,7 +78,7 @@ module _ (q : List ℕ) (ground : Ground) (base : ℕ) (b : Bytes q) where
       }
 
   -- the payloads from `at` on, with enough steps left
-  pub inners_stop : (k at used : ℕ) {why : Refusal} {place : ℕ} → length q ≤ at + k → used ≤ item_cap → inners_from k q ground base at used ≡ refused why place
+  pub inners_stop : (k at used : ℕ) {why : Refusal} {place : ℕ} → length q ≤ at + k → used ≤ item_cap → inners_from k q grounds base at used ≡ refused why place
       → InnersStop q base at used why place
   unfolding inners_from inner_at
   inners_stop zero at used g u h = absurd_eq (cc)
@@ -87,7 +87,7 @@ module _ (q : List ℕ) (ground : Ground) (base : ℕ) (b : Bytes q) where
       (λ a. found (λ m n i r e. inners_stop k m n i r e) (payload_at q at) refl a)
       (λ a. let i : fine [] ≡ refused why place = simp a at h in absurd_eq (cc))
     where
-      found : ((m n : ℕ) → length q ≤ m + k → n ≤ item_cap → inners_from k q ground base m n ≡ refused why place → InnersStop q base m n why place)
+      found : ((m n : ℕ) → length q ≤ m + k → n ≤ item_cap → inners_from k q grounds base m n ≡ refused why place → InnersStop q base m n why place)
           → (f : Found) → payload_at q at ≡ f → ltb at (length q) ≡ true → InnersStop q base at used why place
       found ih (Wrong w) e a =
           let i : at < length q = ltb-true _ _ a in
@@ -102,6 +102,6 @@ module _ (q : List ℕ) (ground : Ground) (base : ℕ) (b : Bytes q) where
           (λ y. let above : 3 < t = leb-false _ _ x in
           let room : used < item_cap = leb-false _ _ y in
           let next = payload_within q at t v l e in
-          let stops = then_kept (inners_from k q ground base (v + l) (used + 1)) (λ ys. payload ground (base + at) t (base + v) l ∷ ys)
-          (sym (inner_turn q ground base k at used t v l i e above room) ∙ h) in
+          let stops = then_kept (inners_from k q grounds base (v + l) (used + 1)) (λ ys. payload grounds (base + at) t (base + v) l ∷ ys)
+          (sym (inner_turn q grounds base k at used t v l i e above room) ∙ h) in
           more_inner at used t v l e above (ih (v + l) (used + 1) (omega arith) (omega arith) stops)))

@@ -26,19 +26,19 @@ module _ (s : List ℕ) (labels : List (List ℕ)) where
   abbrev with : ℤ → SaidPayload → Totalled
   with z x = record { payload = x; total = z }
 
-  inners_carry : {q : List ℕ} {ground : Ground} {base at used : ℕ} {xs : List Payload} {z : ℤ} → signed32 ground.total ≡ z → InnersRead q ground base at used xs
+  inners_carry : {q : List ℕ} {grounds : Ground} {base at used : ℕ} {xs : List Payload} {z : ℤ} → signed32 grounds.total ≡ z → InnersRead q grounds base at used xs
       → map (carries s labels) xs ≡ map (with z) (map (meant_payload s labels) xs)
   inners_carry e (none_inside h) = refl
-  inners_carry {ground = ground} {base = base} e (next_inside {at = at} t v l f h u r) =
-      ap₂ (λ (z : ℤ) (xs : List Totalled). with z (meant_payload s labels (payload ground (base + at) t (base + v) l)) ∷ xs) e (inners_carry e r)
+  inners_carry {grounds = grounds} {base = base} e (next_inside {at = at} t v l f h u r) =
+      ap₂ (λ (z : ℤ) (xs : List Totalled). with z (meant_payload s labels (payload grounds (base + at) t (base + v) l)) ∷ xs) e (inners_carry e r)
 
-  items_carry : {ground : Ground} {at used : ℕ} {parts : List Part} {mark : Bool} (o : ℕ) → Bytes s → o < 65536 → ground.total ≡ extended o → ItemsRead s ground at used parts mark
+  items_carry : {grounds : Ground} {at used : ℕ} {parts : List Part} {mark : Bool} (o : ℕ) → Bytes s → o < 65536 → grounds.total ≡ extended o → ItemsRead s grounds at used parts mark
       → flatten (map (part_carries s labels) parts) ≡ flatten (map (item_totals o) (map (meant_part s labels) parts))
   unfolding flatten
   items_carry o b h e (ended z) = refl
   items_carry o b h e (closed v f z c) = refl
-  items_carry {ground} o b h e (next_plain {at = at} t v l f g u r) =
-      ap₂ (λ (z : ℤ) (xs : List Totalled). with z (meant_payload s labels (payload ground at t v l)) ∷ xs) (ap signed32 e ∙ extended_exact o h) (items_carry o b h e r)
+  items_carry {grounds} o b h e (next_plain {at = at} t v l f g u r) =
+      ap₂ (λ (z : ℤ) (xs : List Totalled). with z (meant_payload s labels (payload grounds at t v l)) ∷ xs) (ap signed32 e ∙ extended_exact o h) (items_carry o b h e r)
   items_carry o b h e (next_sync v l xs f g u n inner r) =
       let own = big_at s v 2 in
       let sum = ap (λ (m : ℕ). signed32 (sum32 m (extended own))) e ∙ sum_exact o own h (big_lt s v 2 b) in

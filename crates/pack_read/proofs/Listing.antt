@@ -36,36 +36,36 @@ use Rattle.pack_read.specs.declared.Outline.{Outline}
 use Rattle.pack_read.proofs.Slots.{inner_slot, slots_more, sets_padded, sets_snoc, sets_before}
 
 -- the payloads of a Sync so far stand in the array from slot `used` on
-pub record Filling (q : List ℕ) (ground : Ground) (base fuel used : ℕ) (before held : List ℕ) (k j : ℕ) : Type 0 where
+pub record Filling (q : List ℕ) (grounds : Ground) (base fuel used : ℕ) (before held : List ℕ) (k j : ℕ) : Type 0 where
   pub xs : List Payload
-  pub inside : WithinSync q ground base fuel used xs k j
+  pub inside : WithinSync q grounds base fuel used xs k j
   pub full : slots_in held ≡ sets (slots_in before) used (map inner_slot xs)
   pub exact : Exact held
 
-pub filling_begins : (q : List ℕ) (ground : Ground) (base fuel used : ℕ) (before : List ℕ) → used ≤ 64 → length q ≤ fuel → Exact before → Filling q ground base fuel used before before used 0
-filling_begins q ground base fuel used before h g e = record { xs = []; inside = inside_begins q ground base fuel used h g; full = refl; exact = e }
+pub filling_begins : (q : List ℕ) (grounds : Ground) (base fuel used : ℕ) (before : List ℕ) → used ≤ 64 → length q ≤ fuel → Exact before → Filling q grounds base fuel used before before used 0
+filling_begins q grounds base fuel used before h g e = record { xs = []; inside = inside_begins q grounds base fuel used h g; full = refl; exact = e }
 
-pub filling_on : {q : List ℕ} {ground : Ground} {base fuel used : ℕ} {before held : List ℕ} {k j t v l : ℕ} {x : Payload} → Filling q ground base fuel used before held k j
-    → j < length q → inner_at q j k ≡ Whole t v l → x ≡ payload ground (base + j) t (base + v) l → {after : List ℕ} → Puts slot_at slot_numbers 8 item_cap held k (slot (I.Inner x)) after
-    → Filling q ground base fuel used before after (k + 1) (v + l)
-filling_on {q} {ground} {base} {fuel} {used} {before} {held} {k} {j} {t} {v} {l} {x} g h e i put = record {
-  xs = g.xs ++ (payload ground (base + j) t (base + v) l ∷ []);
+pub filling_on : {q : List ℕ} {grounds : Ground} {base fuel used : ℕ} {before held : List ℕ} {k j t v l : ℕ} {x : Payload} → Filling q grounds base fuel used before held k j
+    → j < length q → inner_at q j k ≡ Whole t v l → x ≡ payload grounds (base + j) t (base + v) l → {after : List ℕ} → Puts slot_at slot_numbers 8 item_cap held k (slot (I.Inner x)) after
+    → Filling q grounds base fuel used before after (k + 1) (v + l)
+filling_on {q} {grounds} {base} {fuel} {used} {before} {held} {k} {j} {t} {v} {l} {x} g h e i put = record {
+  xs = g.xs ++ (payload grounds (base + j) t (base + v) l ∷ []);
   inside = inside_on g.inside h e;
   full =
       let m : used + length (map inner_slot g.xs) ≡ k = omega (arith, length-map g.xs inner_slot, g.inside.long) in
       put.held
       ∙ ap₂ (λ (a : List Slot) (y : Payload). set a k (inner_slot y)) g.full i
-      ∙ sets_snoc (slots_in before) used (map inner_slot g.xs) k (inner_slot (payload ground (base + j) t (base + v) l)) m
-      ∙ ap (sets (slots_in before) used) (sym (map-append inner_slot g.xs (payload ground (base + j) t (base + v) l ∷ [])));
+      ∙ sets_snoc (slots_in before) used (map inner_slot g.xs) k (inner_slot (payload grounds (base + j) t (base + v) l)) m
+      ∙ ap (sets (slots_in before) used) (sym (map-append inner_slot g.xs (payload grounds (base + j) t (base + v) l ∷ [])));
   exact = exact_put (inner_within q j k t v l e).room put g.exact;
 }
 
 -- what is told when the loop over an inside is through, and where it stops
-module _ {q : List ℕ} {ground : Ground} {base used : ℕ} {before held : List ℕ} {k j : ℕ} (g : (fuel : ℕ) → length q ≤ fuel → Filling q ground base fuel used before held k j) where
-  some : (fuel : ℕ) → length q ≤ fuel → SomeWithin q ground base fuel used k j
+module _ {q : List ℕ} {grounds : Ground} {base used : ℕ} {before held : List ℕ} {k j : ℕ} (g : (fuel : ℕ) → length q ≤ fuel → Filling q grounds base fuel used before held k j) where
+  some : (fuel : ℕ) → length q ≤ fuel → SomeWithin q grounds base fuel used k j
   some fuel h = record { xs = (g fuel h).xs; inside = (g fuel h).inside }
 
-  pub filling_ends : length q ≤ j → InsideRead q ground base used (A.Done k) before held
+  pub filling_ends : length q ≤ j → InsideRead q grounds base used (A.Done k) before held
   filling_ends z = record {
     inside = inside_done some z;
     full = λ fuel xs h e.
@@ -76,7 +76,7 @@ module _ {q : List ℕ} {ground : Ground} {base used : ℕ} {before held : List 
     exact = (g (length q) (omega arith)).exact;
   }
 
-  pub filling_stops : j < length q → {why : Refusal} → inner_at q j k ≡ Wrong why → {r : Answer} → r ≡ A.Refused why (base + j) → InsideRead q ground base used r before held
+  pub filling_stops : j < length q → {why : Refusal} → inner_at q j k ≡ Wrong why → {r : Answer} → r ≡ A.Refused why (base + j) → InsideRead q grounds base used r before held
   filling_stops h e i = record {
     inside = inside_refused some h e i;
     full = λ fuel xs l d. let o = inside_stops (g fuel l).inside h e in absurd_eq (cc);
@@ -90,29 +90,29 @@ on_ground s v tags {q} {base} {used} {r = r} {before} {after} sum same =
     subst (λ (n : ℕ). InsideRead q (ground_of tags n) base used r before after) (sum ∙ ap (λ (n : ℕ). sync_total s n v) same)
 
 -- the items so far stand in the array
-pub record Listing (s : List ℕ) (ground : Ground) (from : ℕ) (held : List ℕ) (n at : ℕ) : Type 0 where
+pub record Listing (s : List ℕ) (grounds : Ground) (from : ℕ) (held : List ℕ) (n at : ℕ) : Type 0 where
   pub parts : List Part
-  pub coming : Coming s ground from parts n at
+  pub coming : Coming s grounds from parts n at
   pub full : slots_in held ≡ padded 64 blank (slots parts)
   pub exact : Exact held
 
-pub listing_begins : (s : List ℕ) (ground : Ground) (from : ℕ) {held : List ℕ} → held ≡ replicate 512 0 → Listing s ground from held 0 from
+pub listing_begins : (s : List ℕ) (grounds : Ground) (from : ℕ) {held : List ℕ} → held ≡ replicate 512 0 → Listing s grounds from held 0 from
 unfolding slots
-listing_begins s ground from e = record {
+listing_begins s grounds from e = record {
   parts = [];
-  coming = coming_begins s ground from;
+  coming = coming_begins s grounds from;
   full = ap slots_in e ∙ slots_none;
   exact = subst Exact (sym e) exact_none;
 }
 
-module _ {s : List ℕ} {ground : Ground} {from : ℕ} {held : List ℕ} {n at : ℕ} (g : Listing s ground from held n at) where
+module _ {s : List ℕ} {grounds : Ground} {from : ℕ} {held : List ℕ} {n at : ℕ} (g : Listing s grounds from held n at) where
   -- how many slots are used
   used : length (slots g.parts) ≡ n
   used = slots_count g.parts ∙ g.coming.long
 
   -- one part more, stored in its slots
-  listing_on : (x : Part) {m next : ℕ} {after : List ℕ} → Coming s ground from (g.parts ++ (x ∷ [])) m next → slots_in after ≡ sets (slots_in held) n (slots (x ∷ [])) → Exact after
-      → Listing s ground from after m next
+  listing_on : (x : Part) {m next : ℕ} {after : List ℕ} → Coming s grounds from (g.parts ++ (x ∷ [])) m next → slots_in after ≡ sets (slots_in held) n (slots (x ∷ [])) → Exact after
+      → Listing s grounds from after m next
   listing_on x coming put exact = record {
     parts = g.parts ++ (x ∷ []);
     coming = coming;
@@ -126,24 +126,24 @@ module _ {s : List ℕ} {ground : Ground} {from : ℕ} {held : List ℕ} {n at :
   }
 
   module _ (h : at < length s) where
-    pub listing_plain : {t v l : ℕ} {x : Payload} → item_at s at n ≡ S.Plain t v l → x ≡ payload ground at t v l → {after : List ℕ}
-        → Puts slot_at slot_numbers 8 item_cap held n (slot (I.Single x)) after → Listing s ground from after (n + 1) (v + l)
+    pub listing_plain : {t v l : ℕ} {x : Payload} → item_at s at n ≡ S.Plain t v l → x ≡ payload grounds at t v l → {after : List ℕ}
+        → Puts slot_at slot_numbers 8 item_cap held n (slot (I.Single x)) after → Listing s grounds from after (n + 1) (v + l)
     unfolding slots
     listing_plain {t} {v} {l} e i put =
-        listing_on (one (payload ground at t v l)) (coming_plain g.coming h e) (put.held ∙ ap (λ (y : Payload). set (slots_in held) n (slot (I.Single y))) i)
+        listing_on (one (payload grounds at t v l)) (coming_plain g.coming h e) (put.held ∙ ap (λ (y : Payload). set (slots_in held) n (slot (I.Single y))) i)
         (exact_put (plain_fits s at n t v l e).room put g.exact)
 
     -- a Sync, by what is told of its inside, as the code cuts it
     pub listing_sync : {v l k : ℕ} (e : item_at s at n ≡ S.Open v l) {r : Answer} {inner : List ℕ}
-        (cut : InsideRead (take (v + l - (v + 4)) (drop (v + 4) s)) (sync_ground s ground v) (v + 4) (n + 1) r held inner) → r ≡ A.Done k → (k ≡ n + 1 → ⊥) → {x : Head}
-        → x ≡ sync_head s at v l (k - (n + 1)) → {after : List ℕ} → Puts slot_at slot_numbers 8 item_cap inner n (slot (I.Sync x)) after → Listing s ground from after k (v + l)
+        (cut : InsideRead (take (v + l - (v + 4)) (drop (v + 4) s)) (sync_ground s grounds v) (v + 4) (n + 1) r held inner) → r ≡ A.Done k → (k ≡ n + 1 → ⊥) → {x : Head}
+        → x ≡ sync_head s at v l (k - (n + 1)) → {after : List ℕ} → Puts slot_at slot_numbers 8 item_cap inner n (slot (I.Sync x)) after → Listing s grounds from after k (v + l)
     unfolding slots
     listing_sync {v} {l} {k} e {r} {inner} cut d u y put =
         let o = sync_on g.coming h e cut.inside d u in
         let xs = o.0 in
         let some : k - (n + 1) ≡ length xs = omega (arith, o.2) in
         let head = sync_head s at v l (length xs) in
-        let reads = subst (λ (q : List ℕ). InsideRead q (sync_ground s ground v) (v + 4) (n + 1) r held inner) (inside_part s v l) cut in
+        let reads = subst (λ (q : List ℕ). InsideRead q (sync_ground s grounds v) (v + 4) (n + 1) r held inner) (inside_part s v l) cut in
         listing_on (many head xs) o.3
         (put.held
         ∙ ap₂ (λ (a : List Slot) (z : Head). set a n (slot (I.Sync z))) (reads.full l xs (inside_enough s at n v l e) o.1) (y ∙ ap (sync_head s at v l) some)
@@ -162,14 +162,14 @@ tells_refused offset mapped all slots e q exact = record {
 }
 
 -- the items are read
-pub tells_done : {s : List ℕ} {ground : Ground} {from n at : ℕ} (slots : List ℕ) (g : Listing s ground from slots n at) (offset mapped : ℕ) (all : List ℕ) {c : Bool} {r : Outline}
-    → items_from (length s) s ground from 0 ≡ fine (record { parts = g.parts; crc = c }) → r ≡ done_of n offset c mapped
-    → BodyTold offset mapped all (items_from (length s) s ground from 0) r slots
+pub tells_done : {s : List ℕ} {grounds : Ground} {from n at : ℕ} (slots : List ℕ) (g : Listing s grounds from slots n at) (offset mapped : ℕ) (all : List ℕ) {c : Bool} {r : Outline}
+    → items_from (length s) s grounds from 0 ≡ fine (record { parts = g.parts; crc = c }) → r ≡ done_of n offset c mapped
+    → BodyTold offset mapped all (items_from (length s) s grounds from 0) r slots
 unfolding shown_body
-tells_done {s} {ground} {from} {n} slots g offset mapped all {c} {r} e q =
+tells_done {s} {grounds} {from} {n} slots g offset mapped all {c} {r} e q =
     let same : (places : List ℕ)
     → ◌≡◌ {A = Reading} (record { answer = A.Done n; offset = offset; crc = c; mapped = mapped; tags = all; labels = places; items = slots_in slots })
-    (shown_body offset mapped all places (items_from (length s) s ground from 0))
+    (shown_body offset mapped all places (items_from (length s) s grounds from 0))
     = λ places.
     ap₂ (λ (m : ℕ) (l : List Slot). record { answer = A.Done m; offset = offset; crc = c; mapped = mapped; tags = all; labels = places; items = l }) (sym g.coming.long) g.full
     ∙ sym (ap (shown_body offset mapped all places) e) in

@@ -22,9 +22,9 @@ use Rattle.pack_read.specs.declared.Opened.{Opened}
 use Rattle.pack_read.specs.declared.Opened.TheVariants as O
 
 -- the payloads of an inside q are told, and stand in the slots from `used` on
-pub record InsideRead (q : List ℕ) (ground : Ground) (base used : ℕ) (r : Answer) (before after : List ℕ) : Type 0 where
-  pub inside : InsideTold q ground base used r
-  pub full : (k : ℕ) (xs : List Payload) → length q ≤ k → inners_from k q ground base 0 used ≡ fine xs
+pub record InsideRead (q : List ℕ) (grounds : Ground) (base used : ℕ) (r : Answer) (before after : List ℕ) : Type 0 where
+  pub inside : InsideTold q grounds base used r
+  pub full : (k : ℕ) (xs : List Payload) → length q ≤ k → inners_from k q grounds base 0 used ≡ fine xs
       → slots_in after ≡ sets (slots_in before) used (map (λ (x : Payload). slot (I.Inner x)) xs)
   pub exact : Exact after
 

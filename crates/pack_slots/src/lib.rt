@@ -1,3 +1,4 @@
+#![tactic(auto)]
 // The slots of a reading as numbers in a lent array, eight to a slot. An array of numbers is lent; one of structs would be copied wherever it goes.
 ghost use Rattle.std.specs.Prelude.{◌≡◌, ◌+◌, ◌*◌, ◌<◌, ◌≤◌, length};
 ghost use Rattle.runs.specs.Over.{Wrote};

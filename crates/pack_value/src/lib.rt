@@ -1,3 +1,4 @@
+#![tactic(auto)]
 // A payload's value and a mapping's label: the very stretches of the pack that a reading speaks of.
 ghost use Rattle.std.specs.Prelude.{◌≡◌};
 ghost use Rattle.pack.specs.Meaning.{stretch_in, value_of, label_at};

@@ -139,9 +139,9 @@ reading_complete = complete.reading_complete
 
 -- Reading goes through the items of a pack, the payloads inside a Sync and the mappings of a Config by steps, of which it has one for each byte there is.
 -- Those are enough: with any more, each comes to the same.
-pub fuel_enough : (s : List ℕ) (ground : Ground) (more at v l used : ℕ)
-    → (length s ≤ more → items_from more s ground at used ≡ items_from (length s) s ground at used)
-    × (l ≤ more → inners_from more (take (l - 4) (drop (v + 4) s)) ground (v + 4) 0 used ≡ inners_from l (take (l - 4) (drop (v + 4) s)) ground (v + 4) 0 used)
+pub fuel_enough : (s : List ℕ) (grounds : Ground) (more at v l used : ℕ)
+    → (length s ≤ more → items_from more s grounds at used ≡ items_from (length s) s grounds at used)
+    × (l ≤ more → inners_from more (take (l - 4) (drop (v + 4) s)) grounds (v + 4) 0 used ≡ inners_from l (take (l - 4) (drop (v + 4) s)) grounds (v + 4) 0 used)
     × (l ≤ more → mappings_from more (take (v + l) s) at [] (v + 2) ≡ mappings_from l (take (v + l) s) at [] (v + 2))
 fuel_enough = fuel.fuel_enough
 

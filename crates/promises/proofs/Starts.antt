@@ -72,12 +72,12 @@ module _ (s : List ℕ) (base n : ℕ) (bytes : Bytes s) where
       let long : length part ≤ length s - base = simp (length-take, length-drop) (omega arith) in
       omega (arith, w.later, w.inside)
 
-  inners_stand : {ground : Ground} {at used : ℕ} {xs : List Payload} → InnersRead part ground base at used xs → Each (PayloadStands s ground.tags) xs
+  inners_stand : {grounds : Ground} {at used : ℕ} {xs : List Payload} → InnersRead part grounds base at used xs → Each (PayloadStands s grounds.tags) xs
   inners_stand (none_inside h) = tt
   inners_stand (next_inside {at = at} t v l e h u r) = (record { tag = t; named = refl; stands = inner_stands at t v l e; value = inside s (base + v) l (inner_ends at t v l e) }, inners_stand r)
 
-items_stand : (s : List ℕ) {ground : Ground} {at used : ℕ} {parts : List Part} {mark : Bool} → Bytes s → ItemsRead s ground at used parts mark
-    → Each (PartStands s ground.tags) parts
+items_stand : (s : List ℕ) {grounds : Ground} {at used : ℕ} {parts : List Part} {mark : Bool} → Bytes s → ItemsRead s grounds at used parts mark
+    → Each (PartStands s grounds.tags) parts
 unfolding part
 items_stand s b (ended h) = tt
 items_stand s b (closed v e z c) = tt

@@ -13,7 +13,7 @@ use Rattle.pack_check.proofs.count_inside.Statement.{statement}
 use Rattle.pack_check.proofs.count_inside.Tie as tie
 
 abbrev invariant_loop : tie.invariant_loop
-invariant_loop q base used n₀ at₀ n at = (ground : Ground) (k : ℕ) → length q ≤ k → SomeWithin q ground base k used n at
+invariant_loop q base used n₀ at₀ n at = (grounds : Ground) (k : ℕ) → length q ≤ k → SomeWithin q grounds base k used n at
 
 abbrev decreases_loop : tie.decreases_loop
 decreases_loop q base used n₀ at₀ n at = length q - at
@@ -27,7 +27,7 @@ whole : (c : tie.After-found2 invariant_loop decreases_loop) → WholeAt c
 whole c = sym c.before.before.inner-at.ensures ∙ c.found2.given.1
 
 loop_holds : tie.Need-loop-init invariant_loop decreases_loop
-loop_holds c = λ ground k h. record { xs = []; inside = inside_begins _ ground _ k _ c.before.requires.0 h }
+loop_holds c = λ grounds k h. record { xs = []; inside = inside_begins _ grounds _ k _ c.before.requires.0 h }
 
 add_refuse : tie.Need-overflow-add-refuse invariant_loop decreases_loop
 add_refuse c = omega (arith, c.before.before.before.before.before.before.before.requires.1, c.before.before.before.before.loop-test.true)
@@ -35,7 +35,7 @@ add_refuse c = omega (arith, c.before.before.before.before.before.before.before.
 returns : tie.Need-returns invariant_loop decreases_loop
 returns c =
     let f = c.before.before in
-    λ ground. inside_refused (f.before.before.before.before.loop.invariant ground) f.before.before.before.loop-test.true (sym f.before.before.inner-at.ensures ∙ f.found.given.1) c.refuse.ensures
+    λ grounds. inside_refused (f.before.before.before.before.loop.invariant grounds) f.before.before.before.loop-test.true (sym f.before.before.inner-at.ensures ∙ f.found.given.1) c.refuse.ensures
 
 add_n : tie.Need-overflow-add-n invariant_loop decreases_loop
 add_n c = let w = inner_within _ _ _ _ _ _ (whole c.before) in omega (arith, w.room)
@@ -49,10 +49,10 @@ loop_less c = let w = inner_within _ _ _ _ _ _ (whole c.before) in omega (arith,
 loop_again : tie.Need-loop-preserved invariant_loop decreases_loop
 loop_again c =
     let f = c.before in
-    λ ground k h. record { xs = _; inside = inside_on (f.before.before.before.before.loop.invariant ground k h).inside f.before.before.before.loop-test.true (whole f) }
+    λ grounds k h. record { xs = _; inside = inside_on (f.before.before.before.before.loop.invariant grounds k h).inside f.before.before.before.loop-test.true (whole f) }
 
 returns_2 : tie.Need-returns-2 invariant_loop decreases_loop
-returns_2 c = λ ground. inside_done (c.before.loop.invariant ground) c.loop-test.false
+returns_2 c = λ grounds. inside_done (c.before.loop.invariant grounds) c.loop-test.false
 
 pub count_inside_spec : {M : Type 1} → statement M
 count_inside_spec =

@@ -17,7 +17,7 @@ use Rattle.pack_check.proofs.count_items.Statement.{statement}
 use Rattle.pack_check.proofs.count_items.Tie as tie
 
 abbrev invariant_loop : tie.invariant_loop
-invariant_loop s from n₀ at₀ n at = (ground : Ground) → Counting s ground from n at
+invariant_loop s from n₀ at₀ n at = (grounds : Ground) → Counting s grounds from n at
 
 abbrev decreases_loop : tie.decreases_loop
 decreases_loop s from n₀ at₀ n at = length s - at
@@ -42,12 +42,12 @@ opens : (c : tie.After-step4 invariant_loop decreases_loop) → OpenAt c
 opens c = sym c.before.before.item-at.ensures ∙ c.step4.given.1
 
 loop_holds : tie.Need-loop-init invariant_loop decreases_loop
-loop_holds c = λ ground. record { parts = []; coming = coming_begins _ ground _ }
+loop_holds c = λ grounds. record { parts = []; coming = coming_begins _ grounds _ }
 
 returns : tie.Need-returns invariant_loop decreases_loop
 returns c =
     let f = c.before.before in
-    λ ground. answers counted (coming_bad (f.before.before.before.before.loop.invariant ground).coming f.before.before.before.loop-test.true (sym f.before.before.item-at.ensures ∙ f.step.given.1)) c.refuse.ensures
+    λ grounds. answers counted (coming_bad (f.before.before.before.before.loop.invariant grounds).coming f.before.before.before.loop-test.true (sym f.before.before.item-at.ensures ∙ f.step.given.1)) c.refuse.ensures
 
 crc_good_requires : tie.Need-crc-good-requires invariant_loop decreases_loop
 crc_good_requires c κs = omega (arith, close_ends _ _ _ _ (closes c.before))
@@ -55,15 +55,15 @@ crc_good_requires c κs = omega (arith, close_ends _ _ _ _ (closes c.before))
 returns_2 : tie.Need-returns-2 invariant_loop decreases_loop
 returns_2 c =
     let f = c.before.before.before in
-    λ ground.
-    let g = (f.before.before.before.before.loop.invariant ground).coming in
+    λ grounds.
+    let g = (f.before.before.before.before.loop.invariant grounds).coming in
     counts counted (coming_good g f.before.before.before.loop-test.true (closes f) (sym c.before.crc-good.ensures ∙ c.if1.true)) (ap A.Done (sym g.long))
 
 returns_3 : tie.Need-returns-3 invariant_loop decreases_loop
 returns_3 c =
     let f = c.before.before.before.before in
-    λ ground.
-    answers counted (coming_crc (f.before.before.before.before.loop.invariant ground).coming f.before.before.before.loop-test.true (closes f) (sym c.before.before.crc-good.ensures ∙ c.before.if1.false)) c.refuse2.ensures
+    λ grounds.
+    answers counted (coming_crc (f.before.before.before.before.loop.invariant grounds).coming f.before.before.before.loop-test.true (closes f) (sym c.before.before.crc-good.ensures ∙ c.before.if1.false)) c.refuse2.ensures
 
 add_n : tie.Need-overflow-add-n invariant_loop decreases_loop
 add_n c = omega (arith, (plain_fits _ _ _ _ _ _ (plain c.before)).room)
@@ -75,7 +75,7 @@ loop_less : tie.Need-loop-smaller invariant_loop decreases_loop
 loop_less c = let f = plain_fits _ _ _ _ _ _ (plain c.before) in omega (arith, f.later, f.inside, c.before.before.before.before.loop-test.true)
 
 loop_again : tie.Need-loop-preserved invariant_loop decreases_loop
-loop_again c = let f = c.before in λ ground. record { parts = _; coming = coming_plain (f.before.before.before.before.loop.invariant ground).coming f.before.before.before.loop-test.true (plain f) }
+loop_again c = let f = c.before in λ grounds. record { parts = _; coming = coming_plain (f.before.before.before.before.loop.invariant grounds).coming f.before.before.before.loop-test.true (plain f) }
 
 add_base : tie.Need-overflow-add-base invariant_loop decreases_loop
 add_base c = let f = open_fits _ _ _ _ _ (opens c.before) in omega (arith, f.0.inside, f.1, c.before.before.before.before.before.before.before.requires)
@@ -106,13 +106,13 @@ returns_4 : tie.Need-returns-4 invariant_loop decreases_loop
 returns_4 c =
     let k = c.before.before.before in
     let f = k.before.before.before in
-    λ ground. answers counted (sync_refused (f.before.before.before.before.loop.invariant ground).coming f.before.before.before.loop-test.true (opens f) (k.count-inside.ensures _) c.before.inside.given.1) refl
+    λ grounds. answers counted (sync_refused (f.before.before.before.before.loop.invariant grounds).coming f.before.before.before.loop-test.true (opens f) (k.count-inside.ensures _) c.before.inside.given.1) refl
 
 returns_5 : tie.Need-returns-5 invariant_loop decreases_loop
 returns_5 c =
     let k = c.before.before.before.before.before in
     let f = k.before.before.before in
-    λ ground. answers counted (sync_none (f.before.before.before.before.loop.invariant ground).coming f.before.before.before.loop-test.true (opens f) (k.count-inside.ensures _) c.before.before.before.inside2.given.1 c.before.if2.true) c.refuse3.ensures
+    λ grounds. answers counted (sync_none (f.before.before.before.before.loop.invariant grounds).coming f.before.before.before.loop-test.true (opens f) (k.count-inside.ensures _) c.before.before.before.inside2.given.1 c.before.if2.true) c.refuse3.ensures
 
 loop_less_2 : tie.Need-loop-smaller-2 invariant_loop decreases_loop
 loop_less_2 c = let f = open_fits _ _ _ _ _ (opens c.before.before.before.before.before.before.before) in omega (arith, f.0.later, f.0.inside, c.before.before.before.before.before.before.before.before.before.before.loop-test.true)
@@ -121,12 +121,12 @@ loop_again_2 : tie.Need-loop-preserved-2 invariant_loop decreases_loop
 loop_again_2 c =
     let k = c.before.before.before.before in
     let f = k.before.before.before in
-    λ ground. record { parts = _; coming = (sync_on (f.before.before.before.before.loop.invariant ground).coming f.before.before.before.loop-test.true (opens f) (k.count-inside.ensures _) c.before.before.inside2.given.1 c.if2.false).3 }
+    λ grounds. record { parts = _; coming = (sync_on (f.before.before.before.before.loop.invariant grounds).coming f.before.before.before.loop-test.true (opens f) (k.count-inside.ensures _) c.before.before.inside2.given.1 c.if2.false).3 }
 
 returns_6 : tie.Need-returns-6 invariant_loop decreases_loop
 returns_6 c =
-    λ ground.
-    let g = (c.before.loop.invariant ground).coming in
+    λ grounds.
+    let g = (c.before.loop.invariant grounds).coming in
     counts counted (coming_ends g c.loop-test.false) (ap A.Done (sym g.long))
 
 pub count_items_spec : {M : Type 1} → statement M
