@@ -16,7 +16,7 @@ use refusals::Answer;
 
 // An answer for C: number 0 and a count, or a refusal's number and its place.
 #[repr(C)]
-#[derive(Drop)]
+#[derive(Clone, Copy)]
 pub struct Told {
     pub number: u64,
     pub value: u64,
@@ -25,7 +25,7 @@ pub struct Told {
 // What was looked up, for C: number 0 and `value` bytes from `start` on of main, `from` 1, or of backup, `from` 2, and the payload's total offset; or a
 // refusal's number, its place in `value`, the pack at fault in `from`, 0 for neither, and 0 in `start` and `total`.
 #[repr(C)]
-#[derive(Drop)]
+#[derive(Clone, Copy)]
 pub struct ToldFound {
     pub number: u64,
     pub value: u64,
@@ -36,7 +36,7 @@ pub struct ToldFound {
 
 // A gain for C: number 0 and either muted 1 or so many half decibels, or a refusal's number and two zeros.
 #[repr(C)]
-#[derive(Drop)]
+#[derive(Clone, Copy)]
 pub struct ToldGain {
     pub number: u32,
     pub muted: u32,

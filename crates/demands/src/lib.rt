@@ -5,14 +5,14 @@ ghost use Rattle.demands.specs.Demands.{ScrubTwo, ScrubAndRead, ReadAndWrite, Wr
 use ballastwren::{Told, ToldFound, ToldGain};
 
 // What two calls tell, one after the other.
-#[derive(Drop)]
+#[derive(Clone, Copy)]
 pub struct Two {
     pub first: Told,
     pub second: Told,
 }
 
 // What two checks and a look-up tell.
-#[derive(Drop)]
+#[derive(Clone, Copy)]
 pub struct Looked {
     pub main: Told,
     pub backup: Told,

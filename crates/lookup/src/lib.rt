@@ -1,3 +1,4 @@
+#![tactic(auto)]
 // The value of a label's first payload in the main pack or else in the backup pack, and a mark that says in which.
 ghost use Rattle.std.specs.Prelude.{◌≡◌, List, Bool, ℕ, ◌+◌, ◌<◌, ◌≤◌, length, take};
 ghost use Rattle.pack.specs.Payloads.{ground_of};
@@ -13,7 +14,7 @@ use pack_read::Opened;
 use refusals::{Answer, Refusal};
 
 // Which of the two packs.
-#[derive(Drop)]
+#[derive(Clone, Copy)]
 pub enum Mark {
     Main,
     Backup,
@@ -21,7 +22,7 @@ pub enum Mark {
 }
 
 // Where the value stands: its pack, its start and its length, and its payload's total offset; or the refusal, its place and the pack at fault.
-#[derive(Drop)]
+#[derive(Clone, Copy)]
 pub enum Found {
     At {
         from: Mark,
@@ -37,7 +38,7 @@ pub enum Found {
 }
 
 // What one pack has of a label: where the value of its first payload stands and its total offset in two's complement, or none, or the pack's refusal.
-#[derive(Drop)]
+#[derive(Clone, Copy)]
 pub enum Sought {
     At {
         start: usize,
@@ -53,7 +54,7 @@ pub enum Sought {
 
 // Where a value stands, and its payload's total offset. Before any is found `start` is 0, where no value stands. It stays this small so that the loops keep it
 // in registers.
-#[derive(Drop)]
+#[derive(Clone, Copy)]
 pub struct Spot {
     pub start: u32,
     pub len: u32,
@@ -62,7 +63,7 @@ pub struct Spot {
 
 // What the inside of a Sync comes to: how many items and payloads there are with its own, or the refusal; and what its first payload has
 // that is sought.
-#[derive(Drop)]
+#[derive(Clone, Copy)]
 pub struct Inside {
     pub answer: Answer,
     pub first: Spot,

@@ -1,3 +1,4 @@
+#![tactic(auto)]
 // The check of a pack: the walk over it that stores nothing.
 ghost use Rattle.std.specs.Prelude.{◌≡◌, ◌+◌, ◌≤◌, length};
 ghost use Rattle.refusals.specs.Outcomes.{answered};

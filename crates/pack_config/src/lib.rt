@@ -12,7 +12,7 @@ use pack::{Found, Name};
 use refusals::{Answer, Refusal};
 
 // What a pack's value begins with: a Config, by the stretch of its value, or something else.
-#[derive(Drop)]
+#[derive(Clone, Copy)]
 pub enum First {
     Config {
         value_start: usize,

@@ -10,7 +10,7 @@ use pack::{Found, Step};
 use refusals::Refusal;
 
 // What a quick look tells: an audio payload's tag and the stretch of its value, or nothing.
-#[derive(Drop)]
+#[derive(Clone, Copy)]
 pub enum Glance {
     Audio {
         tag: u32,

@@ -1,3 +1,4 @@
+#![tactic(auto)]
 // The reading of a pack, into lent arrays or by value.
 ghost use Rattle.std.specs.Prelude.{◌≡◌, ◌+◌, ◌≤◌, length, take, replicate};
 ghost use Rattle.refusals.specs.Outcomes.{Outcome, and_then};

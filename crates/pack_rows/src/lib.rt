@@ -1,3 +1,4 @@
+#![tactic(auto)]
 // The reading of a pack as rows of eight numbers in a lent run.
 ghost use Rattle.std.specs.Prelude.{◌≡◌, cond, ◌≤◌, length};
 ghost use Rattle.refusals.specs.Lent.{within, Delivered};

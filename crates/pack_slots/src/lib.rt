@@ -12,7 +12,7 @@ use pack::{Head, Item, Name, Payload};
 // A cell: its form (0 a payload, 1 a Sync, 2 a payload inside the Sync above), where it starts, what it is named by (0 a number, 1 a label,
 // 2 for a Sync), the tag or the mapping or how many payloads are inside, the stretch of its value, a payload's total offset
 // or a Sync's own offset, and a Sync's duration.
-#[derive(Drop)]
+#[derive(Clone, Copy)]
 pub struct Cell {
     pub form: u32,
     pub start: u32,

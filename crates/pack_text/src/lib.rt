@@ -1,3 +1,4 @@
+#![tactic(auto)]
 // The text of a reading: a line for the pack and one for each item and inner payload, or one line for a refusal, written into a lent buffer.
 ghost use Rattle.std.specs.Prelude.{◌≡◌, ◌+◌, ◌≤◌, length, take};
 ghost use Rattle.runs.specs.Over.{Wrote};

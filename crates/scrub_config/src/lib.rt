@@ -1,3 +1,4 @@
+#![tactic(auto)]
 // The Config of a scrubbed pack: its size, and its bytes in a lent buffer that has room for them.
 ghost use Rattle.std.specs.Prelude.{◌≡◌, ◌++◌, ◌+◌, ◌≤◌, ◌<◌, length, take, drop};
 ghost use Rattle.runs.specs.Over.{Wrote};
@@ -6,7 +7,7 @@ ghost use Rattle.pack_layout.specs.Layout.{entries_bytes};
 ghost use Rattle.scrub_config.specs.Entries.{entries_at, config_at, config_size, EntriesFit};
 
 // What is known of a pack before it is written: its offset, how many labels it maps, how many writes it takes and the size of its value.
-#[derive(Drop)]
+#[derive(Clone, Copy)]
 pub struct Measured {
     pub offset: u16,
     pub labels: usize,

@@ -42,12 +42,12 @@ apart_nodup (t ∷ ts) a = Nodup-cons.1 (λ m. ∥∥₁_elim m ⊥_prop (λ d. 
 pub assigned_labels : (taken : List ℕ) (ls : List (List ℕ)) → entry_labels (assigned taken ls) ≡ ls
 unfolding assigned
 assigned_labels taken [] = refl
-assigned_labels taken (l ∷ ls) = ap (λ (r : List (List ℕ)). l ∷ r) (assigned_labels _ ls)
+assigned_labels taken (l ∷ ls) = ap (λ (r : List (List ℕ)). l ∷ r) (assigned_labels (free taken ∷ taken) ls)
 
 pub assigned_length : (taken : List ℕ) (ls : List (List ℕ)) → length (assigned taken ls) ≡ length ls
 unfolding assigned
 assigned_length taken [] = refl
-assigned_length taken (l ∷ ls) = ap suc (assigned_length _ ls)
+assigned_length taken (l ∷ ls) = ap suc (assigned_length (free taken ∷ taken) ls)
 
 -- no tag is a number that was taken
 pub assigned_new : (t : ℕ) (taken : List ℕ) (ls : List (List ℕ)) → among t taken ≡ true → among t (entry_tags (assigned taken ls)) ≡ false

@@ -1,6 +1,6 @@
 -- The labels and the numbers among names: each name is there, no label is there twice, labels stand in order of first appearance, and there are
 -- no more of them than a pack that has them all maps.
-use mathlib.Core.Path.{◌≡◌, refl, sym, ap, ◌∙◌}
+use mathlib.Core.Path.{◌≡◌, refl, sym, ap, subst, ◌∙◌}
 use mathlib.Core.List.{List, [], ◌∷◌, ◌++◌, Memᴰ}
 use mathlib.Core.Bool.{true, false, cond, not}
 use mathlib.Core.Logic.{◌⊎◌, inl, inr}
@@ -55,8 +55,11 @@ names_shown seen (number t ∷ r) =
     (among_here t (numbers_in r), each_map (shown_number t (numbers_in r) seen (labels_in seen r)) r (names_shown seen r))
 names_shown seen (label l ∷ r) =
     split (listed l seen)
-    (λ e. rw e ((λ f. never f), names_shown seen r))
-    (λ e. rw e (
+    (λ e. subst (λ (ls : List (List ℕ)). Each (Shown (numbers_in r) seen ls) (label l ∷ r)) (let q : labels_in seen r ≡ labels_in seen (label l ∷ r) = rw e refl in q) (
+      (λ f. never (sym e ∙ f)),
+      names_shown seen r,
+    ))
+    (λ e. subst (λ (ls : List (List ℕ)). Each (Shown (numbers_in r) seen ls) (label l ∷ r)) (let q : l ∷ labels_in (l ∷ seen) r ≡ labels_in seen (label l ∷ r) = rw e refl in q) (
       (λ f. listed_here l (labels_in (l ∷ seen) r)),
       each_map (shown_label l (numbers_in r) seen (labels_in (l ∷ seen) r)) r (names_shown (l ∷ seen) r),
     ))

@@ -1,3 +1,4 @@
+#![tactic(auto)]
 // What becomes of the slots of a reading, as marks: two numbers each in a lent array.
 ghost use Rattle.std.specs.Prelude.{◌≡◌, [], ◌∷◌, ◌+◌, ◌*◌, ◌<◌, ◌≤◌, length};
 ghost use Rattle.runs.specs.Over.{over};
@@ -6,7 +7,7 @@ ghost use Rattle.pack.specs.Fixed.{item_cap};
 ghost use Rattle.scrub_marks.specs.Marks.{mark_numbers, mark_at};
 
 // A slot of a reading that goes, or that stays under a number or under the label of a mapping. A Sync has no name.
-#[derive(Drop)]
+#[derive(Clone, Copy)]
 pub enum Mark {
     Gone,
     Number(u32),

@@ -1,3 +1,4 @@
+#![tactic(auto)]
 // What a sheet keeps of a reading, and the tags that kept labels get.
 ghost use Rattle.std.specs.Prelude.{◌≡◌, false, ℕ, ◌+◌, ◌<◌, ◌≤◌, take, replicate};
 ghost use Rattle.runs.specs.Those.{Each};

@@ -1,3 +1,4 @@
+#![tactic(auto)]
 // The writes of a scrub: how each is kept as numbers, and its bytes: a payload, or a Sync up to its first payload.
 ghost use Rattle.std.specs.Prelude.{◌≡◌, [], ◌∷◌, ◌+◌, ◌≤◌, ◌<◌, ◌*◌, length, take};
 ghost use Rattle.runs.specs.Over.{Wrote, over};
@@ -6,7 +7,7 @@ ghost use Rattle.runs.specs.Those.{Each};
 ghost use Rattle.scrub_ops.specs.Ops.{op_bytes, ops_bytes, OpFits, op_numbers, op_at, ops_in};
 
 // One write: nothing; a payload under a tag, its value a stretch of the pack; a Sync before `size` bytes of payloads.
-#[derive(Drop)]
+#[derive(Clone, Copy)]
 pub enum Op {
     Skip,
     Put {

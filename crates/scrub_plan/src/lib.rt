@@ -1,3 +1,4 @@
+#![tactic(auto)]
 // The plan pass: from marked slots, the writes and their size.
 ghost use Rattle.std.specs.Prelude.{◌≡◌, ◌+◌, ◌≤◌, take, replicate};
 ghost use Rattle.runs.specs.Those.{Each};
@@ -12,7 +13,7 @@ use scrub_marks::Mark;
 use scrub_ops::Op;
 
 // What a slot adds: its write, the bytes inside a Sync that is still to come, and its size.
-#[derive(Drop)]
+#[derive(Clone, Copy)]
 pub struct SlotPlan {
     pub op: Op,
     pub inner: u32,

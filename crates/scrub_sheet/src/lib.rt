@@ -1,3 +1,4 @@
+#![tactic(auto)]
 // The keep sheet: judged once, then asked for each name. Its entries are read where they stand.
 ghost use Rattle.std.specs.Prelude.{◌≡◌, false, ℕ, ◌+◌, ◌*◌, ◌<◌, ◌≤◌, length, take, drop, get_or};
 ghost use Rattle.runs.specs.Same.{among, listed};
@@ -9,7 +10,7 @@ ghost use Rattle.scrub_sheet.specs.Asked.{sheet_asked, asks, EntriesThere, Short
 use refusals::{Answer, Refusal};
 
 // What a sheet asks for: all, nothing, or its labels and numbers by their counts; a malformed one is refused.
-#[derive(Drop)]
+#[derive(Clone, Copy)]
 pub enum Asked {
     All,
     Nothing,

@@ -1,3 +1,4 @@
+#![tactic(auto)]
 // The write pass: key, length, Config, the writes and the CRC of a pack into a lent buffer that has room for them.
 ghost use Rattle.std.specs.Prelude.{[], ◌∷◌, ◌++◌, ◌+◌, ◌≤◌, ◌<◌, ◌^◌, length, take};
 ghost use Rattle.runs.specs.Over.{Wrote};
