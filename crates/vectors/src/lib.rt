@@ -1,31 +1,9 @@
 #![tactic(auto)]
-// How the input of the vector programs is read, and how that of a case is laid out: in parts, each with how often it stands there and its length, in
-// two bytes each, and its bytes.
-ghost use Rattle.std.specs.Prelude.{map, ◌-◌, ◌<◌, ◌≤◌, length, replicate, take, IfOk};
-ghost use Rattle.std.specs.Io.KnownBytes.{Consumes, IsAtEnd};
+// How the input of a case is laid out: in parts, each with how often it stands there and its length, in two bytes each, and its bytes.
+ghost use Rattle.std.specs.Prelude.{map, ◌-◌, ◌≤◌, length, replicate};
 ghost use Rattle.runs.specs.Digits.{digits};
 ghost use Rattle.runs.specs.Over.{Wrote};
 ghost use Rattle.vectors.specs.Blocks.{fitting, fours, blocks_in};
-
-use std::io;
-use std::io::Read;
-
-// Fills `buf` with the bytes that come next, and answers how many there were: fewer only where the input ends.
-pub fn read_full<R: Read>(input: &mut R, buf: &mut [u8]) -> io::Result<usize>
-    ensures upper_bound { IfOk result (λ n. n ≤ length buf.new) }
-    ensures consumed { IfOk result (λ n. Consumes (R.remaining input.old) (R.remaining input.new) (take n buf.new)) }
-    ensures ended { IfOk result (λ n. n < length buf.new → IsAtEnd (R.remaining input.new)) }
-{
-    let mut n: usize = 0;
-    while n < buf.len() {
-        let more = input.read(&mut buf[n..])?;
-        if more == 0 {
-            return Ok(n);
-        }
-        n += more;
-    }
-    Ok(n)
-}
 
 // Puts numbers into `out` as four bytes each, as many as it has room for, and answers how many bytes they are.
 pub fn laid(numbers: &[u32], out: &mut [u8]) -> usize

@@ -8,10 +8,13 @@ ghost use Rattle.std.specs.Prelude.{◌≤◌};
 use pmd::Level;
 use refusals::{Answer, Refusal};
 use std::io;
-use std::io::{BufWriter, Write};
+use std::io::{BufWriter, Read, Write};
 
 // How much of a lent run is printed.
 const SHOWN: usize = 12;
+
+// An input of more bytes is cut off after these.
+const MOST: u64 = 65536;
 
 // Prints a text as it is.
 fn text(to: &mut impl Write, s: &[u8]) -> io::Result<()> {
@@ -225,11 +228,10 @@ fn cases(to: &mut impl Write, s: &[u8]) -> io::Result<()> {
     text(to, b" cases\n")
 }
 
-// An input of more than these bytes is cut off.
 fn main(rt: HostRuntime) -> io::Result<()> {
-    let mut all = [0u8; 65536];
-    let n = vectors::read_full(&mut rt.reader(), &mut all)?;
+    let mut all = Vec::new(rt.alloc());
+    rt.reader().take(MOST).read_to_end(&mut all)?;
     let mut out = BufWriter::new(rt.alloc(), io::writer(&rt))?;
-    cases(&mut out, &all[0..n])?;
+    cases(&mut out, &all)?;
     out.flush()
 }

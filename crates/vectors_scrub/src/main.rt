@@ -5,7 +5,8 @@
 // pack follow; every byte of the buffer holds EE before the scrub.
 #![tactic(auto)]
 
-ghost use Rattle.std.specs.Prelude.{◌≤◌};
+ghost use Rattle.std.specs.Prelude.{◌<◌, ◌≤◌, length, take, IfOk};
+ghost use Rattle.std.specs.Io.KnownBytes.{Consumes, IsAtEnd};
 
 use refusals::Answer;
 use std::io;
@@ -90,9 +91,26 @@ fn told(to: &mut impl Write, answer: Answer, out: &[u8]) -> io::Result<()> {
     }
 }
 
+// Fills `buf` with the bytes that come next, and answers how many there were: fewer only where the input ends.
+fn read_full<R: Read>(input: &mut R, buf: &mut [u8]) -> io::Result<usize>
+    ensures upper_bound { IfOk result (λ n. n ≤ length buf.new) }
+    ensures consumed { IfOk result (λ n. Consumes (R.remaining input.old) (R.remaining input.new) (take n buf.new)) }
+    ensures ended { IfOk result (λ n. n < length buf.new → IsAtEnd (R.remaining input.new)) }
+{
+    let mut n: usize = 0;
+    while n < buf.len() {
+        let more = input.read(&mut buf[n..])?;
+        if more == 0 {
+            return Ok(n);
+        }
+        n += more;
+    }
+    Ok(n)
+}
+
 // Fills `s` with the next bytes of the input, or says that there are not so many.
 fn filled(input: &mut impl Read, to: &mut impl Write, s: &mut [u8]) -> io::Result<bool> {
-    if vectors::read_full(input, s)? == s.len() {
+    if read_full(input, s)? == s.len() {
         return Ok(true);
     }
     text(to, b"the cases end early\n")?;
@@ -151,7 +169,7 @@ fn rest(
 // Whether a case was there and could be run.
 fn case(input: &mut impl Read, to: &mut impl Write) -> io::Result<bool> {
     let mut head = [0u8; 16];
-    let got = vectors::read_full(input, &mut head)?;
+    let got = read_full(input, &mut head)?;
     if got == 0 {
         return Ok(false);
     }

@@ -2,26 +2,44 @@
 // reference (`cargo run --release --offline --example vectors_text` in reference/): a case is its title line and its pack, each after its length in two bytes.
 #![tactic(auto)]
 
-ghost use Rattle.std.specs.Prelude.{◌≤◌, length, IfOk};
+ghost use Rattle.std.specs.Prelude.{◌<◌, ◌≤◌, length, take, IfOk};
+ghost use Rattle.std.specs.Io.KnownBytes.{Consumes, IsAtEnd};
 
 use anyhow::{Context, Result};
 use std::fs::File;
 use std::io;
 use std::io::{BufWriter, Read, Write};
 
+// Fills `buf` with the bytes that come next, and answers how many there were: fewer only where the input ends.
+fn read_full<R: Read>(input: &mut R, buf: &mut [u8]) -> io::Result<usize>
+    ensures upper_bound { IfOk result (λ n. n ≤ length buf.new) }
+    ensures consumed { IfOk result (λ n. Consumes (R.remaining input.old) (R.remaining input.new) (take n buf.new)) }
+    ensures ended { IfOk result (λ n. n < length buf.new → IsAtEnd (R.remaining input.new)) }
+{
+    let mut n: usize = 0;
+    while n < buf.len() {
+        let more = input.read(&mut buf[n..])?;
+        if more == 0 {
+            return Ok(n);
+        }
+        n += more;
+    }
+    Ok(n)
+}
+
 // Reads the next block into `buf` and answers how long it is: 0 where the file ends.
 fn block(file: &mut impl Read, buf: &mut [u8]) -> io::Result<usize>
     ensures { IfOk result (λ n. n ≤ length buf.new) }
 {
     let mut size = [0u8; 2];
-    if vectors::read_full(file, &mut size)? < 2 {
+    if read_full(file, &mut size)? < 2 {
         return Ok(0);
     }
     let n = numbers::be16(&size, 0) as usize;
     if buf.len() < n {
         return Ok(0);
     }
-    vectors::read_full(file, &mut buf[0..n])
+    read_full(file, &mut buf[0..n])
 }
 
 fn print(to: &mut impl Write, pack: &[u8]) -> io::Result<()> {
