@@ -103,7 +103,7 @@ check 'report: OUT must be a regular file' gives 2 '' '*null: a report is made b
 # theorems: each theorem that the report names stands on the page of promises.
 theorems() {
     local name
-    for name in kept-whole kept-in-place kept-only read-back same-kept-same-buffer no-trace; do
+    for name in kept_whole kept_in_place kept_only read_back same_kept_same_buffer no_trace; do
         grep -q -- "$name" "$T/a.report" || { echo "$name is not in the report"; return 1; }
         grep -q "^ *pub $name :" crates/promises/proofs/Promises.antt || { echo "$name is not promised"; return 1; }
     done
