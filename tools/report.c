@@ -27,10 +27,10 @@ static void print_statement(FILE *to)
 {
     fputs("What is proved, of ballastwren " BW_VERSION "\n"
           "  Every payload that the sheet names is in the written pack, byte for byte and in order, inside its\n"
-          "  Sync with the same two numbers, and no other payload is (theorems kept_whole, kept_in_place,\n"
-          "  kept_only, read_back). Every byte of the written pack follows from the sheet, the pack offset and\n"
+          "  Sync with the same two numbers, and no other payload is (theorems kept-whole, kept-in-place,\n"
+          "  kept-only, read-back). Every byte of the written pack follows from the sheet, the pack offset and\n"
           "  the kept items above; nothing else that the scrubbed pack held has left a trace in it (theorems\n"
-          "  same_kept_same_buffer, no_trace).\n"
+          "  same-kept-same-buffer, no-trace).\n"
           "  Not proved: this command's reading and writing of files and the printing of this report. The report\n"
           "  was made by reading the pack back as it was written.\n",
           to);
