@@ -6,9 +6,6 @@ use anyhow::{Context, Result};
 use std::io;
 use std::io::{Read, Write};
 
-// One byte more than the longest pack is enough to see that a pack is too long.
-const MOST: u64 = 32769;
-
 fn print(rt: &impl Print, pack: &[u8]) -> Result<()> {
     let mut text = [0u8; 4096];
     let n = pack_text::list(pack, &mut text);
@@ -17,16 +14,22 @@ fn print(rt: &impl Print, pack: &[u8]) -> Result<()> {
         .context("standard output")
 }
 
-// Reads until the input ends or MOST bytes came, then lists what came.
-fn list_input(rt: &(impl Input + Print + Alloc)) -> Result<()> {
-    let mut pack = Vec::new(rt.alloc());
-    rt.reader()
-        .take(MOST)
-        .read_to_end(&mut pack)
-        .context("standard input")?;
-    print(rt, &pack)
+// Reads until the input ends or `buf` is full, then lists what came.
+fn list_input(rt: &(impl Input + Print), buf: &mut [u8]) -> Result<()> {
+    let mut input = rt.reader();
+    let mut n: usize = 0;
+    while n < buf.len() {
+        let more = input.read(&mut buf[n..]).context("standard input")?;
+        if more == 0 {
+            return print(rt, &buf[0..n]);
+        }
+        n += more;
+    }
+    print(rt, &buf[0..n])
 }
 
+// One byte more than the longest pack is enough to see that a pack is too long.
 fn main(rt: HostRuntime) -> Result<()> {
-    list_input(&rt)
+    let mut pack = [0u8; 32769];
+    list_input(&rt, &mut pack)
 }

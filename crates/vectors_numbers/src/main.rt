@@ -5,7 +5,7 @@ ghost use Rattle.std.specs.Prelude.{◌≤◌, ◌+◌, ◌<◌, ◌*◌, ◌^�
 
 use numbers::{LengthRead, TagRead};
 use std::io;
-use std::io::{BufWriter, Write};
+use std::io::Write;
 
 fn text(to: &mut impl Write, s: &[u8]) -> io::Result<()> {
     to.write_all(s)
@@ -295,7 +295,7 @@ fn fields(to: &mut impl Write) -> io::Result<()> {
 
 // What the writer took stands on standard output before an error ends the program.
 fn main(rt: HostRuntime) -> io::Result<()> {
-    let mut out = BufWriter::new(rt.alloc(), io::writer(&rt))?;
+    let mut out = io::writer(&rt);
     tags(&mut out)?;
     lengths(&mut out)?;
     signs(&mut out)?;
@@ -303,5 +303,5 @@ fn main(rt: HostRuntime) -> io::Result<()> {
     sections(&mut out)?;
     messages(&mut out)?;
     fields(&mut out)?;
-    out.flush()
+    Ok(())
 }

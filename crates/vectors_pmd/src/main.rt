@@ -3,18 +3,16 @@
 // says how a case is laid out; the answers are the reference implementation's.
 #![tactic(auto)]
 
-ghost use Rattle.std.specs.Prelude.{◌≤◌};
+ghost use Rattle.std.specs.Prelude.{◌<◌, ◌≤◌, length, take, IfOk};
+ghost use Rattle.std.specs.Io.KnownBytes.{Consumes, IsAtEnd};
 
 use pmd::Level;
 use refusals::{Answer, Refusal};
 use std::io;
-use std::io::{BufWriter, Read, Write};
+use std::io::{Read, Write};
 
 // How much of a lent run is printed.
 const SHOWN: usize = 12;
-
-// An input of more bytes is cut off after these.
-const MOST: u64 = 65536;
 
 // Prints a text as it is.
 fn text(to: &mut impl Write, s: &[u8]) -> io::Result<()> {
@@ -228,10 +226,28 @@ fn cases(to: &mut impl Write, s: &[u8]) -> io::Result<()> {
     text(to, b" cases\n")
 }
 
+// Fills `buf` with the bytes that come next, and answers how many there were: fewer only where the input ends.
+fn read_full<R: Read>(input: &mut R, buf: &mut [u8]) -> io::Result<usize>
+    ensures upper_bound { IfOk result (λ n. n ≤ length buf.new) }
+    ensures consumed { IfOk result (λ n. Consumes (R.remaining input.old) (R.remaining input.new) (take n buf.new)) }
+    ensures ended { IfOk result (λ n. n < length buf.new → IsAtEnd (R.remaining input.new)) }
+{
+    let mut n: usize = 0;
+    while n < buf.len() {
+        let more = input.read(&mut buf[n..])?;
+        if more == 0 {
+            return Ok(n);
+        }
+        n += more;
+    }
+    Ok(n)
+}
+
+// An input of more bytes than these is cut off.
 fn main(rt: HostRuntime) -> io::Result<()> {
-    let mut all = Vec::new(rt.alloc());
-    rt.reader().take(MOST).read_to_end(&mut all)?;
-    let mut out = BufWriter::new(rt.alloc(), io::writer(&rt))?;
-    cases(&mut out, &all)?;
-    out.flush()
+    let mut all = [0u8; 65536];
+    let mut input = rt.reader();
+    let n = read_full(&mut input, &mut all)?;
+    let mut out = io::writer(&rt);
+    cases(&mut out, &all[0..n])
 }

@@ -8,7 +8,7 @@ ghost use Rattle.std.specs.Io.KnownBytes.{Consumes, IsAtEnd};
 use anyhow::{Context, Result};
 use std::fs::File;
 use std::io;
-use std::io::{BufWriter, Read, Write};
+use std::io::{Read, Write};
 
 // Fills `buf` with the bytes that come next, and answers how many there were: fewer only where the input ends.
 fn read_full<R: Read>(input: &mut R, buf: &mut [u8]) -> io::Result<usize>
@@ -65,12 +65,11 @@ fn case(file: &mut impl Read, to: &mut impl Write) -> io::Result<bool> {
 // A proved loop has to end, and nothing says that a file does: there are fewer cases than this.
 fn main(rt: HostRuntime) -> Result<()> {
     let mut file = File::open(&rt, "cases").context("cases")?;
-    let mut out = BufWriter::new(rt.alloc(), io::writer(&rt))?;
+    let mut out = io::writer(&rt);
     for _ in 0..10000u32 {
         if !case(&mut file, &mut out)? {
             break;
         }
     }
-    out.flush()?;
     Ok(())
 }
