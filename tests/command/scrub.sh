@@ -100,12 +100,12 @@ check 'report: all kept' gives 0 $'*Keep sheet\n  keep all\n\nWritten pack*' '' 
 check 'report: OUT must be a regular file' gives 2 '' '*null: a report is made by reading OUT back*' \
     "$BW" scrub --report --sheet "$ALL" "$SAMPLES/packs/sync.pack" /dev/null
 
-# theorems: each theorem that the report names stands on the page of promises.
+# theorems: each theorem that the report names stands on the page of promises, where its words are joined as Rattle joins them.
 theorems() {
     local name
     for name in kept-whole kept-in-place kept-only read-back same-kept-same-buffer no-trace; do
         grep -q -- "$name" "$T/a.report" || { echo "$name is not in the report"; return 1; }
-        grep -q "^ *pub $name :" crates/promises/proofs/Promises.antt || { echo "$name is not promised"; return 1; }
+        grep -q "^ *pub ${name//-/_} :" crates/promises/proofs/Promises.antt || { echo "$name is not promised"; return 1; }
     done
 }
 check 'report: the theorems that it names are promised' theorems

@@ -5,5 +5,4 @@ pub mod Most
 pub mod One
 pub mod SheetChecks
 pub mod Back
-pub mod Steps
 pub mod Tables

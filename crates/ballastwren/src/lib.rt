@@ -1,3 +1,4 @@
+#![tactic(auto)]
 // What C calls, through crates/ballastwren_c: include/ballastwren.h says it for the C programmer. Answers are structs of numbers.
 // No function here asks anything of its caller, keeps a state or takes memory.
 ghost use Rattle.std.specs.Prelude.{◌≡◌};

@@ -1,3 +1,4 @@
+#![tactic(auto)]
 // The CRC as a C function, for the benchmark alone.
 ghost use Rattle.std.specs.Prelude.{◌≡◌};
 ghost use Rattle.crc.specs.Crc.{crc_of};

@@ -1,3 +1,4 @@
+#![tactic(auto)]
 // The demands of document 01 and the requests of document 02 as functions over what C calls: each calls exports, and its contract says which, of what, and
 // the demands that they meet. An export that promised less would leave its function here without a proof.
 ghost use Rattle.demands.specs.Demands.{ScrubTwo, ScrubAndRead, ReadAndWrite, WriteAndRead, CheckAndRead, CheckSheetAndScrub, CheckAndLookUp, TellGain};

@@ -1,1 +1,2 @@
+#![tactic(auto)]
 // What Ballastwren promises, in one place. This crate has theorems; no code.

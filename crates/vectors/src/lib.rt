@@ -1,3 +1,4 @@
+#![tactic(auto)]
 // How the input of a case is laid out: in parts, each with how often it stands there and its length, in two bytes each, and its bytes.
 ghost use Rattle.std.specs.Prelude.{map, ◌-◌, ◌≤◌, length, replicate};
 ghost use Rattle.runs.specs.Digits.{digits};

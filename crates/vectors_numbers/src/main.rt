@@ -1,15 +1,18 @@
 // Runs published numbers through the number layer and prints what it finds; the gate holds that to the file `stdout`.
+#![tactic(auto)]
+
 ghost use Rattle.std.specs.Prelude.{◌≤◌, ◌+◌, ◌<◌, ◌*◌, ◌^◌, length};
 
-use libc::STDOUT_FILENO;
 use numbers::{LengthRead, TagRead};
+use std::io;
+use std::io::{BufWriter, Write};
 
-fn text(s: &[u8]) {
-    io::write_all(STDOUT_FILENO, s);
+fn text(to: &mut impl Write, s: &[u8]) -> io::Result<()> {
+    to.write_all(s)
 }
 
-fn decimal(n: u64) {
-    io::print_decimal(STDOUT_FILENO, n);
+fn decimal(to: &mut impl Write, n: u64) -> io::Result<()> {
+    write!(to, "{n}")
 }
 
 fn wide(n: u32) -> u64 {
@@ -20,59 +23,59 @@ fn far(n: usize) -> u64 {
     n as u64
 }
 
-fn byte(b: u8) {
-    io::print_hex(STDOUT_FILENO, b as u64, 2);
+fn byte(to: &mut impl Write, b: u8) -> io::Result<()> {
+    write!(to, "{b:02x}")
 }
 
 // The bytes of `s` in hexadecimal, a space before each.
-fn bytes(s: &[u8]) {
-    let mut i: usize = 0;
-    while i < s.len() {
-        text(b" ");
-        byte(s[i]);
-        i += 1;
+fn bytes(to: &mut impl Write, s: &[u8]) -> io::Result<()> {
+    for b in s {
+        text(to, b" ")?;
+        byte(to, *b)?;
     }
+    Ok(())
 }
 
 // The first n bytes of `s`.
-fn first(s: &[u8], n: usize) {
+fn first(to: &mut impl Write, s: &[u8], n: usize) -> io::Result<()> {
     if n <= s.len() {
-        bytes(&s[0..n]);
+        bytes(to, &s[0..n])?;
     }
+    Ok(())
 }
 
 // A number and how it is written: the first `end` bytes of `out`.
-fn written(name: &[u8], n: u32, out: &[u8], end: usize) {
-    text(name);
-    decimal(wide(n));
-    text(b" is");
-    first(out, end);
-    text(b",");
+fn written(to: &mut impl Write, name: &[u8], n: u32, out: &[u8], end: usize) -> io::Result<()> {
+    text(to, name)?;
+    decimal(to, wide(n))?;
+    text(to, b" is")?;
+    first(to, out, end)?;
+    text(to, b",")
 }
 
 // What is read where these bytes stand.
-fn standing(name: &[u8], s: &[u8]) {
-    text(name);
-    bytes(s);
-    text(b":");
+fn standing(to: &mut impl Write, name: &[u8], s: &[u8]) -> io::Result<()> {
+    text(to, name)?;
+    bytes(to, s)?;
+    text(to, b":")
 }
 
 // A number that was read, and the place after it.
-fn read(n: u64, next: usize) {
-    text(b" read ");
-    decimal(n);
-    text(b" in ");
-    decimal(far(next));
+fn read(to: &mut impl Write, n: u64, next: usize) -> io::Result<()> {
+    text(to, b" read ")?;
+    decimal(to, n)?;
+    text(to, b" in ")?;
+    decimal(to, far(next))
 }
 
 // The tag `t`: as it is written, and as it is read back with other bytes after it.
-fn tag(t: u32)
+fn tag(to: &mut impl Write, t: u32) -> io::Result<()>
     requires { t < 128 ^ 4 }
 {
     let mut out = [0xEEu8; 8];
     let end = put_tag(&mut out, t);
-    written(b"tag ", t, &out, end);
-    tag_at(&out);
+    written(to, b"tag ", t, &out, end)?;
+    tag_at(to, &out)
 }
 
 fn put_tag(out: &mut [u8], t: u32) -> usize
@@ -85,26 +88,26 @@ fn put_tag(out: &mut [u8], t: u32) -> usize
 }
 
 // What reading a tag at the start of `s` finds.
-fn tag_at(s: &[u8]) {
+fn tag_at(to: &mut impl Write, s: &[u8]) -> io::Result<()> {
     match numbers::read_tag(s, 0) {
-        TagRead::Tag { tag, next } => read(wide(tag), next),
-        TagRead::Bad => text(b" bad"),
-        TagRead::Cut => text(b" cut"),
+        TagRead::Tag { tag, next } => read(to, wide(tag), next)?,
+        TagRead::Bad => text(to, b" bad")?,
+        TagRead::Cut => text(to, b" cut")?,
     }
-    text(b"\n");
+    text(to, b"\n")
 }
 
-fn tag_bytes(s: &[u8]) {
-    standing(b"tag at", s);
-    tag_at(s);
+fn tag_bytes(to: &mut impl Write, s: &[u8]) -> io::Result<()> {
+    standing(to, b"tag at", s)?;
+    tag_at(to, s)
 }
 
 // The length `n`: as it is written, and as it is read back with other bytes after it.
-fn len(n: u32) {
+fn len(to: &mut impl Write, n: u32) -> io::Result<()> {
     let mut out = [0xEEu8; 8];
     let end = put_length(&mut out, n);
-    written(b"length ", n, &out, end);
-    len_at(&out);
+    written(to, b"length ", n, &out, end)?;
+    len_at(to, &out)
 }
 
 fn put_length(out: &mut [u8], n: u32) -> usize {
@@ -114,183 +117,191 @@ fn put_length(out: &mut [u8], n: u32) -> usize {
     0
 }
 
-fn len_at(s: &[u8]) {
+fn len_at(to: &mut impl Write, s: &[u8]) -> io::Result<()> {
     match numbers::read_length(s, 0) {
-        LengthRead::Length { len, next } => read(len, next),
-        LengthRead::Forbidden => text(b" forbidden"),
-        LengthRead::Cut => text(b" cut"),
+        LengthRead::Length { len, next } => read(to, len, next)?,
+        LengthRead::Forbidden => text(to, b" forbidden")?,
+        LengthRead::Cut => text(to, b" cut")?,
     }
-    text(b"\n");
+    text(to, b"\n")
 }
 
-fn len_bytes(s: &[u8]) {
-    standing(b"length at", s);
-    len_at(s);
+fn len_bytes(to: &mut impl Write, s: &[u8]) -> io::Result<()> {
+    standing(to, b"length at", s)?;
+    len_at(to, s)
 }
 
-fn crc_line(s: &[u8]) {
-    text(b": ");
-    io::print_hex(STDOUT_FILENO, wide(crc::crc(s)), 8);
-    text(b"\n");
+fn crc_line(to: &mut impl Write, s: &[u8]) -> io::Result<()> {
+    text(to, b": ")?;
+    write!(to, "{:08x}", wide(crc::crc(s)))?;
+    text(to, b"\n")
 }
 
-fn crc_of(name: &[u8], s: &[u8]) {
-    text(b"crc of ");
-    text(name);
-    crc_line(s);
+fn crc_of(to: &mut impl Write, name: &[u8], s: &[u8]) -> io::Result<()> {
+    text(to, b"crc of ")?;
+    text(to, name)?;
+    crc_line(to, s)
 }
 
 // The field of `w` bits from bit `at` on.
-fn field(s: &[u8], at: usize, w: usize)
+fn field(to: &mut impl Write, s: &[u8], at: usize, w: usize) -> io::Result<()>
     requires { (w ≤ 15) × ((at + w ≤ 8 * length s.now) × (length s.now ≤ 65536)) }
 {
-    text(b"field");
-    bytes(s);
-    text(b", ");
-    decimal(far(w));
-    text(b" bits from ");
-    decimal(far(at));
-    text(b": ");
-    decimal(wide(bits::fetch(s, at, w)));
-    text(b"\n");
+    text(to, b"field")?;
+    bytes(to, s)?;
+    text(to, b", ")?;
+    decimal(to, far(w))?;
+    text(to, b" bits from ")?;
+    decimal(to, far(at))?;
+    text(to, b": ")?;
+    decimal(to, wide(bits::fetch(s, at, w)))?;
+    text(to, b"\n")
 }
 
 // A section's CRC without its last four bytes, which hold it, and with them.
-fn section(name: &[u8], s: &[u8])
+fn section(to: &mut impl Write, name: &[u8], s: &[u8]) -> io::Result<()>
     requires { 4 ≤ length s.now }
 {
     let end = s.len() - 4;
-    crc_of(name, &s[0..end]);
-    text(b"  and with its last four bytes");
-    bytes(&s[end..]);
-    crc_line(s);
+    crc_of(to, name, &s[0..end])?;
+    text(to, b"  and with its last four bytes")?;
+    bytes(to, &s[end..])?;
+    crc_line(to, s)
 }
 
 // Whether a 16-bit number read as two's complement is `v`, which is written `name`.
-fn sign(n: u16, v: i64, name: &[u8]) {
-    text(b"signed ");
-    decimal(n as u64);
+fn sign(to: &mut impl Write, n: u16, v: i64, name: &[u8]) -> io::Result<()> {
+    text(to, b"signed ")?;
+    decimal(to, n as u64)?;
     if numbers::signed32(numbers::extended(n)) == v {
-        text(b" is ");
+        text(to, b" is ")?;
     } else {
-        text(b" is not ");
+        text(to, b" is not ")?;
     }
-    text(name);
-    text(b"\n");
+    text(to, name)?;
+    text(to, b"\n")
 }
 
 // 01's examples, and the forms that are refused.
-fn tags() {
-    tag(127);
-    tag(128);
-    tag(16383);
-    tag(16384);
-    tag(268435455);
-    tag_bytes(b"\x00");
-    tag_bytes(b"\x80\x01");
-    tag_bytes(b"\x81");
-    tag_bytes(b"\xFF\xFF\xFF\x7F");
-    tag_bytes(b"\xFF\xFF\xFF\xFF");
-    tag_bytes(b"");
+fn tags(to: &mut impl Write) -> io::Result<()> {
+    tag(to, 127)?;
+    tag(to, 128)?;
+    tag(to, 16383)?;
+    tag(to, 16384)?;
+    tag(to, 268435455)?;
+    tag_bytes(to, b"\x00")?;
+    tag_bytes(to, b"\x80\x01")?;
+    tag_bytes(to, b"\x81")?;
+    tag_bytes(to, b"\xFF\xFF\xFF\x7F")?;
+    tag_bytes(to, b"\xFF\xFF\xFF\xFF")?;
+    tag_bytes(to, b"")
 }
 
 // 01's examples, longer forms than needed, and the forms that are refused.
-fn lengths() {
-    len(127);
-    len(128);
-    len(255);
-    len(256);
-    len(65536);
-    len(4294967295);
-    len_bytes(b"\x81\x01");
-    len_bytes(b"\x84\x00\x00\x00\x01");
-    len_bytes(b"\x80");
-    len_bytes(b"\x85");
-    len_bytes(b"\xFF\x00");
-    len_bytes(b"\x82\x01");
-    len_bytes(b"");
+fn lengths(to: &mut impl Write) -> io::Result<()> {
+    len(to, 127)?;
+    len(to, 128)?;
+    len(to, 255)?;
+    len(to, 256)?;
+    len(to, 65536)?;
+    len(to, 4294967295)?;
+    len_bytes(to, b"\x81\x01")?;
+    len_bytes(to, b"\x84\x00\x00\x00\x01")?;
+    len_bytes(to, b"\x80")?;
+    len_bytes(to, b"\x85")?;
+    len_bytes(to, b"\xFF\x00")?;
+    len_bytes(to, b"\x82\x01")?;
+    len_bytes(to, b"")
 }
 
-fn signs() {
-    sign(0, 0, b"0");
-    sign(32767, 32767, b"32767");
-    sign(32768, -32768, b"-32768");
-    sign(65535, -1, b"-1");
+fn signs(to: &mut impl Write) -> io::Result<()> {
+    sign(to, 0, 0, b"0")?;
+    sign(to, 32767, 32767, b"32767")?;
+    sign(to, 32768, -32768, b"-32768")?;
+    sign(to, 65535, -1, b"-1")
 }
 
 // The check value of the catalogue of parametrised CRC algorithms (CRC-32/MPEG-2).
-fn crcs() {
-    crc_of(b"nothing", b"");
-    crc_of(b"123456789", b"123456789");
-    crc_of(b"123456789 and its CRC", b"123456789\x03\x76\xE6\xE7");
+fn crcs(to: &mut impl Write) -> io::Result<()> {
+    crc_of(to, b"nothing", b"")?;
+    crc_of(to, b"123456789", b"123456789")?;
+    crc_of(to, b"123456789 and its CRC", b"123456789\x03\x76\xE6\xE7")
 }
 
 // Sections that FFmpeg's MPEG-2 transport stream muxer sends: the association of program 1 with PID 1000h, its map with one H.264 and
 // one AAC stream, and the service description of "Service01" by "FFmpeg". Each ends with its CRC_32.
-fn sections() {
+fn sections(to: &mut impl Write) -> io::Result<()> {
     section(
+        to,
         b"PAT",
         b"\x00\xB0\x0D\x00\x01\xC1\x00\x00\x00\x01\xF0\x00\x2A\xB1\x04\xB2",
-    );
+    )?;
     section(
+        to,
         b"PMT",
         b"\x02\xB0\x17\x00\x01\xC1\x00\x00\xE1\x00\xF0\x00\x1B\xE1\x00\xF0\x00\x0F\xE1\x01\xF0\x00\x2F\x44\xB9\x9B",
-    );
+    )?;
     section(
+        to,
         b"SDT",
         b"\x42\xF0\x25\x00\x01\xC1\x00\x00\xFF\x01\xFF\x00\x01\xFC\x80\x14\x48\x12\x01\x06\x46\x46\x6D\x70\x65\x67\x09\x53\x65\x72\x76\x69\x63\x65\x30\x31\x77\x7C\x43\xCA",
-    );
+    )
 }
 
 // Sample messages of ANSI/SCTE 35, section 14: placement opportunity start, splice insert, placement opportunity end, program start and end.
 // Each ends with its CRC_32.
-fn messages() {
+fn messages(to: &mut impl Write) -> io::Result<()> {
     section(
+        to,
         b"placement opportunity start",
         b"\xFC\x30\x34\x00\x00\x00\x00\x00\x00\xFF\xFF\xF0\x05\x06\xFE\x72\xBD\x00\x50\x00\x1E\x02\x1C\x43\x55\x45\x49\x48\x00\x00\x8E\x7F\xCF\x00\x01\xA5\x99\xB0\x08\x08\x00\x00\x00\x00\x2C\xA0\xA1\x8A\x34\x02\x00\x9A\xC9\xD1\x7E",
-    );
+    )?;
     section(
+        to,
         b"splice insert",
         b"\xFC\x30\x2F\x00\x00\x00\x00\x00\x00\xFF\xFF\xF0\x14\x05\x48\x00\x00\x8F\x7F\xEF\xFE\x73\x69\xC0\x2E\xFE\x00\x52\xCC\xF5\x00\x00\x00\x00\x00\x0A\x00\x08\x43\x55\x45\x49\x00\x00\x01\x35\x62\xDB\xA3\x0A",
-    );
+    )?;
     section(
+        to,
         b"placement opportunity end",
         b"\xFC\x30\x2F\x00\x00\x00\x00\x00\x00\xFF\xFF\xF0\x05\x06\xFE\x74\x62\x90\xA0\x00\x19\x02\x17\x43\x55\x45\x49\x48\x00\x00\x8E\x7F\x9F\x08\x08\x00\x00\x00\x00\x2C\xA0\xA1\x8A\x35\x02\x00\xA9\xCC\x67\x58",
-    );
+    )?;
     section(
+        to,
         b"program start and end",
         b"\xFC\x30\x48\x00\x00\x00\x00\x00\x00\xFF\xFF\xF0\x05\x06\xFE\x7A\x4D\x88\xB6\x00\x32\x02\x17\x43\x55\x45\x49\x48\x00\x00\x18\x7F\x9F\x08\x08\x00\x00\x00\x00\x2C\xCB\xC3\x44\x11\x00\x00\x02\x17\x43\x55\x45\x49\x48\x00\x00\x19\x7F\x9F\x08\x08\x00\x00\x00\x00\x2C\xA4\xDB\xA0\x10\x00\x00\x99\x72\xE3\x43",
-    );
+    )
 }
 
 // The fields of w bits from each bit of a byte on: of the first byte, and where the last byte that covers the field is the last of `s`.
-fn fields_of(s: &[u8], w: usize)
+fn fields_of(to: &mut impl Write, s: &[u8], w: usize) -> io::Result<()>
     requires { (w ≤ 15) × ((3 ≤ length s.now) × (length s.now ≤ 65536)) }
 {
-    let mut bit: usize = 0;
-    while bit < 8 {
+    for bit in 0..8 {
         let covering = (bit + w + 7) / 8;
-        field(s, bit, w);
-        field(s, 8 * (s.len() - covering) + bit, w);
-        bit += 1;
+        field(to, s, bit, w)?;
+        field(to, s, 8 * (s.len() - covering) + bit, w)?;
     }
+    Ok(())
 }
 
 // Fields of every width that a PMD value has, and of none. The reference holds their numbers in `stdout` to its own.
-fn fields() {
-    let mut w: usize = 0;
-    while w < 16 {
-        fields_of(b"\xA5\xC3\x0F\x81\x5E\x72", w);
-        w += 1;
+fn fields(to: &mut impl Write) -> io::Result<()> {
+    for w in 0..16 {
+        fields_of(to, b"\xA5\xC3\x0F\x81\x5E\x72", w)?;
     }
+    Ok(())
 }
 
-fn main() {
-    tags();
-    lengths();
-    signs();
-    crcs();
-    sections();
-    messages();
-    fields();
+// What the writer took stands on standard output before an error ends the program.
+fn main(rt: HostRuntime) -> io::Result<()> {
+    let mut out = BufWriter::new(rt.alloc(), io::writer(&rt))?;
+    tags(&mut out)?;
+    lengths(&mut out)?;
+    signs(&mut out)?;
+    crcs(&mut out)?;
+    sections(&mut out)?;
+    messages(&mut out)?;
+    fields(&mut out)?;
+    out.flush()
 }

@@ -1,52 +1,76 @@
 // Lists the packs of the file `cases`, each under its title; the gate holds what is printed to the file `stdout`. Both files are made by the
 // reference (`cargo run --release --offline --example vectors_text` in reference/): a case is its title line and its pack, each after its length in two bytes.
-ghost use Rattle.std.specs.Prelude.{◌≤◌, length};
+#![tactic(auto)]
 
-use libc::STDOUT_FILENO;
+ghost use Rattle.std.specs.Prelude.{◌<◌, ◌≤◌, length, take, IfOk};
+ghost use Rattle.std.specs.Io.KnownBytes.{Consumes, IsAtEnd};
 
-// Reads the next block into `buf` and answers how long it is: 0 where the file ends.
-fn block(fd: i32, buf: &mut [u8]) -> usize
-    ensures { result ≤ length buf.new }
+use anyhow::{Context, Result};
+use std::fs::File;
+use std::io;
+use std::io::{BufWriter, Read, Write};
+
+// Fills `buf` with the bytes that come next, and answers how many there were: fewer only where the input ends.
+fn read_full<R: Read>(input: &mut R, buf: &mut [u8]) -> io::Result<usize>
+    ensures upper_bound { IfOk result (λ n. n ≤ length buf.new) }
+    ensures consumed { IfOk result (λ n. Consumes (R.remaining input.old) (R.remaining input.new) (take n buf.new)) }
+    ensures ended { IfOk result (λ n. n < length buf.new → IsAtEnd (R.remaining input.new)) }
 {
-    let mut size = [0u8; 2];
-    io::read_full(fd, &mut size);
-    let n = numbers::be16(&size, 0) as usize;
-    if buf.len() < n {
-        return 0;
+    let mut n: usize = 0;
+    while n < buf.len() {
+        let more = input.read(&mut buf[n..])?;
+        if more == 0 {
+            return Ok(n);
+        }
+        n += more;
     }
-    io::read_full(fd, &mut buf[0..n])
+    Ok(n)
 }
 
-fn print(pack: &[u8]) {
+// Reads the next block into `buf` and answers how long it is: 0 where the file ends.
+fn block(file: &mut impl Read, buf: &mut [u8]) -> io::Result<usize>
+    ensures { IfOk result (λ n. n ≤ length buf.new) }
+{
+    let mut size = [0u8; 2];
+    if read_full(file, &mut size)? < 2 {
+        return Ok(0);
+    }
+    let n = numbers::be16(&size, 0) as usize;
+    if buf.len() < n {
+        return Ok(0);
+    }
+    read_full(file, &mut buf[0..n])
+}
+
+fn print(to: &mut impl Write, pack: &[u8]) -> io::Result<()> {
     let mut text = [0u8; 4096];
     let n = pack_text::list(pack, &mut text);
-    io::write_all(STDOUT_FILENO, &text[0..n]);
+    to.write_all(&text[0..n])
 }
 
 // Lists the next case and answers whether there was one.
-fn case(fd: i32) -> bool {
+fn case(file: &mut impl Read, to: &mut impl Write) -> io::Result<bool> {
     let mut title = [0u8; 256];
-    let size = block(fd, &mut title);
+    let size = block(file, &mut title)?;
     if size == 0 {
-        return false;
+        return Ok(false);
     }
-    io::write_all(STDOUT_FILENO, &title[0..size]);
+    to.write_all(&title[0..size])?;
     let mut pack = [0u8; 32769];
-    let n = block(fd, &mut pack);
-    print(&pack[0..n]);
-    true
+    let n = block(file, &mut pack)?;
+    print(to, &pack[0..n])?;
+    Ok(true)
 }
 
-fn main() {
-    let fd = os::open_read(b"cases");
-    if fd < 0 {
-        os::fail(b"cases");
-        return;
+// A proved loop has to end, and nothing says that a file does: there are fewer cases than this.
+fn main(rt: HostRuntime) -> Result<()> {
+    let mut file = File::open(&rt, "cases").context("cases")?;
+    let mut out = BufWriter::new(rt.alloc(), io::writer(&rt))?;
+    for _ in 0..10000u32 {
+        if !case(&mut file, &mut out)? {
+            break;
+        }
     }
-    // A proved loop has to end, and nothing says that a file does: there are fewer cases than this.
-    let mut left: usize = 10000;
-    while left > 0 && case(fd) {
-        left -= 1;
-    }
-    libc::close(fd);
+    out.flush()?;
+    Ok(())
 }

@@ -1,13 +1,12 @@
 -- `lookup::mapped_to` meets its contract. The loop keeps what is left: the mappings from i on have the tag that all of them have.
 use mathlib.Core.Path.{◌≡◌, refl, sym, ap₂, ◌∙◌}
 use mathlib.Core.List.{List}
-use Prim.Native.Nat.{ℕ, ◌+◌, ◌-◌, ◌<◌, ◌≤◌}
+use Prim.Native.Nat.{ℕ, ◌+◌, ◌<◌, ◌≤◌}
 use native.Mathlib.Omega.{arith}
 use lib.ListN.{length, take, drop, get_or}
 use lib.Seq.{get_or-take, take_all, length-take-le}
 use Rattle.runs.specs.Same.{same}
 use Rattle.pack_config.proofs.Standing.{lies_at}
-use Rattle.lookup.specs.Sought.{tag_for}
 use Rattle.lookup.proofs.Tags.{tag_here, tag_later, tag_none, tag_wanted, tag_strange}
 use Rattle.lookup.proofs.mapped_to.Goals as goal
 use Rattle.lookup.proofs.mapped_to.Goals.{After-same_label, After-way_told-1}

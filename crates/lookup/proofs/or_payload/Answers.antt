@@ -1,7 +1,6 @@
 -- `lookup::or_payload` meets its contract: by whether the tag is the one that is sought.
 use mathlib.Core.Path.{ap, ◌∙◌}
 use native.Mathlib.Omega.{arith}
-use borrow.Author.Rules.{rules}
 use borrow.Author.Tests.{eq-eqb, ne_eqb}
 use Rattle.lookup.specs.Sought.{sought_of, or_else}
 use Rattle.lookup.proofs.Steps.{spot_some, other_tag, own_tag}

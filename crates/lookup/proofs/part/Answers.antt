@@ -1,5 +1,4 @@
 -- `lookup::part` meets its contract: by the answer and its mark.
-use borrow.Author.Rules.{rules}
 use Rattle.lookup.proofs.Parts.{part_refused, part_main, part_backup, part_neither}
 use Rattle.lookup.proofs.part.Goals as goal
 

@@ -1,18 +1,11 @@
 -- `lookup::seek_inside` meets its contract. The loop keeps what is left and what was found, for any tags and any fuel that is enough.
 use mathlib.Core.Path.{◌≡◌, refl, sym, ◌∙◌}
-use mathlib.Core.List.{List}
-use mathlib.Core.Bool.{Bool}
-use Prim.Native.Nat.{ℕ, ◌-◌}
 use native.Mathlib.Omega.{arith}
-use lib.ListN.{length}
-use borrow.Author.Rules.{rules}
-use Rattle.pack.specs.Payloads.{inner_at, ground_of}
-use Rattle.pack.specs.declared.Name.{Name}
+use Rattle.pack.specs.Payloads.{inner_at}
 use Rattle.pack.specs.declared.Found.TheVariants.{Whole}
 use Rattle.pack.proofs.Payloads.{Fits, inner_within}
-use Rattle.lookup.specs.Sought.{sought_of, Tells}
 use Rattle.lookup.proofs.Steps.{spot_none}
-use Rattle.lookup.proofs.Seeking.{Within, seek_begins, seek_on, seek_done, seek_stops}
+use Rattle.lookup.proofs.Seeking.{seek_begins, seek_on, seek_done, seek_stops}
 use Rattle.lookup.proofs.seek_inside.Goals as goal
 use Rattle.lookup.proofs.seek_inside.Goals.{In-Whole}
 

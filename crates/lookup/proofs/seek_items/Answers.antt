@@ -1,21 +1,15 @@
 -- `lookup::seek_items` meets its contract. The loop keeps what is left and what was found, for any tags.
 use mathlib.Core.Path.{◌≡◌, refl, sym, ap, ◌∙◌}
-use mathlib.Core.List.{List}
-use mathlib.Core.Bool.{Bool}
-use Prim.Native.Nat.{ℕ, ◌-◌, ◌≤◌}
+use Prim.Native.Nat.{ℕ, ◌≤◌}
 use native.Mathlib.Omega.{arith}
 use lib.ListN.{length}
-use borrow.Author.Rules.{rules}
 use Rattle.numbers.specs.Big.{extended, sum32}
-use Rattle.pack.specs.Payloads.{ground_of}
 use Rattle.pack.specs.Items.{item_at, sync_total}
-use Rattle.pack.specs.declared.Name.{Name}
 use Rattle.pack.specs.declared.Step.TheVariants as S
 use Rattle.pack.proofs.Payloads.{Fits, plain_fits, open_fits, close_ends}
 use Rattle.pack.proofs.Coming.{coming_ends, coming_bad, coming_good, coming_crc, sync_refused, sync_none, inside_long, inside_part}
-use Rattle.lookup.specs.Sought.{sought_of, Tells}
 use Rattle.lookup.proofs.Steps.{spot_none, body_refused, body_fine}
-use Rattle.lookup.proofs.Seeking.{on_sum, SeekingItems, items_begin, plain_on, open_on}
+use Rattle.lookup.proofs.Seeking.{on_sum, items_begin, plain_on, open_on}
 use Rattle.lookup.proofs.seek_items.Goals as goal
 use Rattle.lookup.proofs.seek_items.Goals.{After-seek_inside-inside, In-Close, In-Open, In-Plain}
 

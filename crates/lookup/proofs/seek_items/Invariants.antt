@@ -5,7 +5,6 @@ use Prim.Native.Nat.{ℕ, ◌-◌}
 use lib.ListN.{length}
 use Rattle.pack.specs.Payloads.{ground_of}
 use Rattle.pack.specs.declared.Name.{Name}
-use Rattle.pack.specs.declared.Step.TheVariants as S
 use Rattle.lookup.specs.Sought.{sought_of, Tells}
 use Rattle.lookup.proofs.Seeking.{SeekingItems}
 use Rattle.lookup.proofs.seek_items.Given as goal

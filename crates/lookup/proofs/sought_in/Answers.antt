@@ -1,6 +1,5 @@
 -- `lookup::sought_in` meets its contract: the opening is refused, or the items are gone over for the tag that the label is mapped to.
 use mathlib.Core.Path.{ap, ◌∙◌}
-use borrow.Author.Rules.{rules}
 use Rattle.numbers.specs.Big.{extended}
 use Rattle.pack_read.proofs.Opening.{whole_refused, opened_from, opened_small}
 use Rattle.lookup.proofs.Looked.{sought_none}

@@ -1,6 +1,5 @@
 -- `lookup::sought_of` meets its contract: by whether a value starts there.
 use mathlib.Core.Path.{sym}
-use borrow.Author.Rules.{rules}
 use Rattle.lookup.proofs.Steps.{spot_none, spot_some}
 use Rattle.lookup.proofs.sought_of.Goals as goal
 

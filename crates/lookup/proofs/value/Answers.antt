@@ -1,6 +1,5 @@
 -- `lookup::value` meets its contract: the part that the answer tells.
 use mathlib.Core.Path.{ap, ◌∙◌}
-use borrow.Author.Rules.{rules}
 use Rattle.lookup.specs.Lookup.{part_of}
 use Rattle.lookup.proofs.value.Goals as goal
 

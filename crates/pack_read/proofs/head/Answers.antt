@@ -1,5 +1,4 @@
 -- `pack_read::head` meets its contract: by the number that stands there and the one that was read before.
-use borrow.Author.Rules.{rules}
 use Rattle.pack_read.proofs.head.Goals as goal
 
 pub returns : goal.returns

@@ -1,11 +1,5 @@
 -- `pack_read::listed` meets its contract: so many slots from the first on are filled.
-use Prim.Native.Nat.{◌-◌, ◌≤◌}
-use mathlib.Core.Path.{◌≡◌}
 use native.Mathlib.Omega.{arith}
-use borrow.Author.Rules.{rules}
-use lib.ListN.{take}
-use Rattle.pack.specs.Slots.{blank, padded}
-use Rattle.pack_slots.specs.Slots.{slots_in}
 use Rattle.pack_read.proofs.Slots.{listed_next, listed_all}
 use Rattle.pack_read.proofs.listed.Goals as goal
 

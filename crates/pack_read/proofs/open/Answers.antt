@@ -11,7 +11,6 @@ use Rattle.pack_config.proofs.Openings.{first_within}
 use Rattle.refusals.proofs.Lent.{refused_was}
 use Rattle.refusals.proofs.Outcomes.{number_of}
 use Rattle.pack_read.proofs.Opening.{open_refused, open_without, open_stops, open_with, open_sized}
-use borrow.Author.Rules.{rules}
 use Rattle.pack_read.proofs.open.Goals as goal
 use Rattle.pack_read.proofs.open.Goals.{In-Config, In-Done}
 

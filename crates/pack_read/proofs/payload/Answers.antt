@@ -1,5 +1,4 @@
 -- `pack_read::payload` meets its contract: by the name that the tables tell.
-use borrow.Author.Rules.{rules}
 use Rattle.pack_read.proofs.payload.Goals as goal
 
 pub returns : goal.returns

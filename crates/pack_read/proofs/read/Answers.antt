@@ -2,7 +2,6 @@
 use mathlib.Core.Path.{ap, ◌∙◌}
 use mathlib.Core.List.{List}
 use Rattle.pack.specs.declared.Slot.{Slot}
-use borrow.Author.Rules.{rules}
 use Rattle.pack_read.proofs.read.Goals as goal
 
 pub returns : goal.returns

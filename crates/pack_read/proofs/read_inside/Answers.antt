@@ -2,13 +2,10 @@
 -- is enough.
 use mathlib.Core.Path.{◌≡◌, sym, ◌∙◌}
 use native.Mathlib.Omega.{arith}
-use borrow.Author.Rules.{rules}
-use Prim.Native.Nat.{ℕ, ◌-◌, ◌≤◌}
-use lib.ListN.{length, take}
-use Rattle.pack.specs.Payloads.{inner_at, ground_of}
+use Rattle.pack.specs.Payloads.{inner_at}
 use Rattle.pack.specs.declared.Found.TheVariants.{Whole}
 use Rattle.pack.proofs.Payloads.{inner_within}
-use Rattle.pack_read.proofs.Listing.{Filling, filling_begins, filling_on, filling_ends, filling_stops}
+use Rattle.pack_read.proofs.Listing.{filling_begins, filling_on, filling_ends, filling_stops}
 use Rattle.pack_read.proofs.read_inside.Goals as goal
 use Rattle.pack_read.proofs.read_inside.Goals.{In-Whole}
 

@@ -1,6 +1,5 @@
 -- `pack_read::read_into` meets its contract: the opening is refused, or the items are read, or they are refused and the arrays emptied.
 use Rattle.pack_read.proofs.Opening.{outlined_refused, asked, outlined_from, outlined_stops}
-use borrow.Author.Rules.{rules}
 use Rattle.pack_read.proofs.read_into.Goals as goal
 
 pub read_items-found-requires : goal.read_items-found-requires

@@ -1,15 +1,14 @@
 -- `pack_read::read_items` meets its contract. The loop keeps what is left, and that the slots hold the items so far (proofs/Listing).
 use mathlib.Core.Path.{◌≡◌, sym, ap, ◌∙◌}
 use native.Mathlib.Omega.{arith}
-use borrow.Author.Rules.{rules}
 use Rattle.numbers.specs.Big.{extended, sum32}
 use Rattle.pack.specs.Payloads.{ground_of, payload}
 use Rattle.pack.specs.Items.{item_at, sync_total}
 use Rattle.pack.specs.declared.Step.TheVariants as S
 use Rattle.pack.proofs.Payloads.{plain_fits, open_fits, close_ends}
 use Rattle.pack.proofs.Coming.{coming_ends, coming_bad, coming_good, coming_crc, sync_refused, sync_some, sync_none, inside_long, inside_part}
-use Rattle.pack_read.proofs.Listing.{on_ground, Listing, listing_begins, tells_refused, tells_done, listing_plain, listing_sync}
-use Prim.Native.Nat.{ℕ, ◌-◌}
+use Rattle.pack_read.proofs.Listing.{on_ground, listing_begins, tells_refused, tells_done, listing_plain, listing_sync}
+use Prim.Native.Nat.{ℕ}
 use lib.ListN.{length, take}
 use Rattle.pack_read.proofs.read_items.Goals as goal
 use Rattle.pack_read.proofs.read_items.Goals.{After-extended-total, After-payload-x, After-read_inside-inside, In-Close, In-Open, In-Plain}

@@ -1,7 +1,6 @@
 -- `pack_read::read_items` meets its contract. The loop keeps what is left, and that the slots hold the items so far (proofs/Listing).
 use Rattle.numbers.specs.Big.{extended}
 use Rattle.pack.specs.Payloads.{ground_of}
-use Rattle.pack.specs.declared.Step.TheVariants as S
 use Rattle.pack_read.proofs.Listing.{Listing}
 use Prim.Native.Nat.{◌-◌}
 use lib.ListN.{length, take}

@@ -1,6 +1,5 @@
 -- `pack_rows::item_row` meets its contract. By the item.
 use mathlib.Core.Path.{◌≡◌, sym, ap, ◌∙◌}
-use borrow.Author.Rules.{rules}
 use Rattle.pack.specs.declared.Item.{Item}
 use Rattle.pack.proofs.Slots.{single_fits, inner_fits}
 use Rattle.pack_rows.specs.Rows.{item_row}

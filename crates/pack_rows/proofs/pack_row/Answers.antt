@@ -2,7 +2,6 @@
 use Prim.Native.Nat.{ℕ}
 use mathlib.Core.Path.{ap₂}
 use mathlib.Core.List.{[], ◌∷◌}
-use borrow.Author.Rules.{rules}
 use Rattle.pack_rows.specs.Rows.{pack_row}
 use Rattle.pack_rows.proofs.pack_row.Goals as goal
 

@@ -1,5 +1,4 @@
 -- `pack_rows::payload_row` meets its contract. By the payload's name.
-use borrow.Author.Rules.{rules}
 use Rattle.pack.proofs.Slots.{label_fits}
 use Rattle.pack_rows.proofs.Laws.{row_number, row_label}
 use Rattle.pack_rows.proofs.payload_row.Goals as goal

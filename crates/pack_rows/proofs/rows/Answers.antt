@@ -1,12 +1,10 @@
 -- `pack_rows::rows` meets its contract: each return by what is delivered there. The loop keeps what is left to write: the numbers of the rows left.
-use Prim.Native.Nat.{ℕ, ◌+◌, ◌-◌, ◌*◌, ◌<◌, ◌≤◌}
+use Prim.Native.Nat.{ℕ, ◌+◌, ◌*◌, ◌<◌, ◌≤◌}
 use mathlib.Core.Path.{sym, ap, subst, ◌∙◌}
 use mathlib.Core.List.{List, ◌++◌}
-use borrow.Author.Rules.{rules}
 use native.Mathlib.Omega.{arith}
 use lib.ListN.{length, take, drop, length-append}
 use lib.Seq.{get_or-take, length-take-le}
-use Rattle.runs.specs.Digits.{Bytes}
 use Rattle.runs.proofs.Over.{wrote_as}
 use Rattle.runs.proofs.Writing.{Writing, writing_begins, writing_as, writing_run, writing_done}
 use Rattle.pack.specs.Slots.{blank}

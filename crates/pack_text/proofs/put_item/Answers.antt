@@ -1,7 +1,6 @@
 -- `pack_text::put_item` meets its contract: each case of an item is a line of its own.
 use Prim.Native.Nat.{◌+◌, ◌≤◌}
 use mathlib.Core.Path.{◌≡◌, refl, sym, ap}
-use borrow.Author.Rules.{rules}
 use native.Mathlib.Omega.{arith}
 use lib.ListN.{length}
 use Rattle.runs.proofs.Over.{wrote_as}

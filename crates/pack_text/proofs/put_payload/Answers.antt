@@ -1,7 +1,6 @@
 -- `pack_text::put_payload` meets its contract: each case of a name is a line of its own, and the label stands in the pack.
 use Prim.Native.Nat.{◌+◌, ◌-◌, ◌≤◌, ◌<◌}
 use mathlib.Core.Path.{◌≡◌, sym}
-use borrow.Author.Rules.{rules}
 use native.Mathlib.Omega.{arith}
 use lib.ListN.{length, get_or}
 use Rattle.runs.proofs.Over.{wrote_as}

@@ -1,5 +1,4 @@
 -- `pack_text::put_refused` meets its contract: one field after the other.
-use borrow.Author.Rules.{rules}
 use native.Mathlib.Omega.{arith}
 use Rattle.pack_text.specs.Text.{refused_fields}
 use Rattle.pack_text.proofs.Fields.{first_field, next_field, last_field}

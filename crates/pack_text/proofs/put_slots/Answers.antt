@@ -1,5 +1,5 @@
 -- `pack_text::put_slots` meets its contract. The loop keeps what is left to write: the lines of the slots left.
-use Prim.Native.Nat.{◌+◌, ◌-◌, ◌≤◌}
+use Prim.Native.Nat.{◌+◌, ◌≤◌}
 use mathlib.Core.List.{◌++◌}
 use borrow.Author.Rules.{rules}
 use native.Mathlib.Omega.{arith}

@@ -2,7 +2,6 @@
 use mathlib.Core.Path.{◌≡◌}
 use Prim.Native.Nat.{◌+◌, ◌*◌, ◌≤◌}
 use native.Mathlib.Omega.{arith}
-use borrow.Author.Rules.{rules}
 use Rattle.numbers.proofs.Lengths.{length_small}
 use Rattle.scrub_config.proofs.Entries.{size_none, size_some}
 use Rattle.scrub_config.proofs.config_size.Goals as goal

@@ -3,7 +3,6 @@ use mathlib.Core.List.{List, ◌++◌}
 use Prim.Native.Nat.{ℕ, ◌+◌, ◌-◌}
 use native.Mathlib.Omega.{arith}
 use lib.ListN.{take, drop}
-use borrow.Author.Rules.{rules}
 use Rattle.runs.proofs.Writing.{Writing, writing_run, room_for, writing_last}
 use Rattle.numbers.specs.Tags.{tag_bytes}
 use Rattle.numbers.proofs.Tags.{length_tag}

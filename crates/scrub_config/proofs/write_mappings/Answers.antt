@@ -1,14 +1,14 @@
 -- `scrub_config::write_mappings` meets its contract. The loop keeps that what is left, written now, gives the whole.
 use mathlib.Core.Path.{◌≡◌, sym, ap}
 use mathlib.Core.List.{List, ◌++◌}
-use Prim.Native.Nat.{ℕ, ◌-◌, ◌<◌}
+use Prim.Native.Nat.{ℕ, ◌<◌}
 use native.Mathlib.Omega.{arith}
 use lib.ListN.{length, take, drop, get_or, length-take}
 use lib.Seq.{get_or-take}
 use borrow.Author.Rules.{rules}
 use Rattle.runs.proofs.Over.{wrote_as}
 use Rattle.numbers.specs.Tags.{tag_bytes}
-use Rattle.scrub_config.proofs.Entries.{Mapping, Next, mapping_begins, mapping_next, mapping_room, mapping_step, mapping_ends}
+use Rattle.scrub_config.proofs.Entries.{Next, mapping_begins, mapping_next, mapping_room, mapping_step, mapping_ends}
 use Rattle.scrub_config.proofs.write_mappings.Goals as goal
 use Rattle.scrub_config.proofs.write_mappings.Goals.{In-loop-k, Start}
 

@@ -1,5 +1,4 @@
 -- `scrub_marks::mark_in` meets its contract. By the kind.
-use borrow.Author.Rules.{rules}
 use borrow.Author.Tests.{eq-eqb, ne_eqb}
 use Rattle.scrub_marks.specs.Marks.{mark_at}
 use Rattle.scrub_marks.proofs.mark_in.Goals as goal

@@ -1,5 +1,4 @@
 -- `scrub_marks::put_two` meets its contract: two stores.
-use borrow.Author.Rules.{rules}
 use lib.ListN.{length-set}
 use native.Mathlib.Omega.{arith}
 use Rattle.scrub_marks.proofs.Cells.{stored_two}

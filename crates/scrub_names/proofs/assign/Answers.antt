@@ -1,9 +1,8 @@
 -- `scrub_names::assign` meets its contract. The loop keeps the tags given so far and those that are left.
 use mathlib.Core.Path.{sym, subst}
 use mathlib.Core.List.{List}
-use Prim.Native.Nat.{ℕ, ◌-◌, ◌<◌, ◌≤◌}
+use Prim.Native.Nat.{ℕ, ◌<◌, ◌≤◌}
 use native.Mathlib.Omega.{arith}
-use borrow.Author.Rules.{rules}
 use Rattle.scrub_names.proofs.Naming.{Giving, giving_begins, giving_step, giving_ends}
 use Rattle.scrub_names.proofs.assign.Goals as goal
 use Rattle.scrub_names.proofs.assign.Goals.{After-clear_from-free}

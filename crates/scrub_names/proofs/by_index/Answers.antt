@@ -7,7 +7,7 @@ use lib.ListN.{length, take, get_or}
 use lib.Seq.{length-take-le, get_or-take}
 use borrow.Author.Rules.{rules}
 use Rattle.runs.proofs.Those.{each_at}
-use Rattle.scrub_names.proofs.Naming.{Placing, placing_begins, placing_step, placing_ends}
+use Rattle.scrub_names.proofs.Naming.{placing_begins, placing_step, placing_ends}
 use Rattle.scrub_names.proofs.by_index.Goals as goal
 use Rattle.scrub_names.proofs.by_index.Goals.{In-loop-k}
 

@@ -1,5 +1,4 @@
 -- `scrub_names::by_index` meets its contract. The loop places the tags from the last label to the first.
-use Prim.Native.Nat.{◌-◌}
 use lib.ListN.{take}
 use Rattle.scrub_names.proofs.Naming.{Placing}
 use Rattle.scrub_names.proofs.by_index.Given as goal

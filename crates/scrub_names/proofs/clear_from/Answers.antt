@@ -1,9 +1,6 @@
 -- `scrub_names::clear_from` meets its contract. The marks that were passed are set.
-use mathlib.Core.Path.{◌≡◌, refl, sym, ◌∙◌}
-use Prim.Native.Nat.{◌+◌, ◌-◌, ◌≤◌}
+use mathlib.Core.Path.{refl, sym, ◌∙◌}
 use native.Mathlib.Omega.{arith}
-use borrow.Author.Tests.{not-true, not-false}
-use Rattle.scrub_names.specs.Given.{clear_at}
 use Rattle.scrub_names.proofs.Naming.{clear_here, clear_next, clear_end}
 use Rattle.scrub_names.proofs.clear_from.Goals as goal
 

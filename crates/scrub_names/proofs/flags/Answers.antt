@@ -1,18 +1,16 @@
 -- `scrub_names::flags` meets its contract. The loop fills the array with what the sheet says of each label.
 use mathlib.Core.Path.{◌≡◌, refl, sym, ap, ◌∙◌}
 use mathlib.Core.List.{List}
-use mathlib.Core.Bool.{false}
-use Prim.Native.Nat.{ℕ, ◌-◌, ◌<◌, ◌≤◌}
+use Prim.Native.Nat.{ℕ, ◌<◌, ◌≤◌}
 use native.Mathlib.Omega.{arith}
 use lib.ListN.{length, take, drop, get_or}
 use lib.Seq.{length-take-le, get_or-take}
 use borrow.Author.Rules.{rules}
 use Rattle.runs.proofs.Those.{each_at}
-use Rattle.pack.specs.Fixed.{mapping_cap}
 use Rattle.pack.specs.Said.{label}
 use Rattle.scrub_kept.specs.Kept.{keeps}
 use Rattle.scrub_sheet.specs.Asked.{asks}
-use Rattle.scrub_names.proofs.Padded.{Filling, filling_step, filling_ends}
+use Rattle.scrub_names.proofs.Padded.{filling_step, filling_ends}
 use Rattle.scrub_names.specs.Marks.{HasLabel}
 use Rattle.scrub_names.proofs.flags.Goals as goal
 use Rattle.scrub_names.proofs.flags.Goals.{In-loop-i, Start}

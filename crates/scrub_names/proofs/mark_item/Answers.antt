@@ -1,5 +1,4 @@
 -- `scrub_names::mark_item` meets its contract. By cases on the item.
-use borrow.Author.Rules.{rules}
 use Rattle.pack.proofs.Slots.{single_fits, inner_fits}
 use Rattle.scrub_names.specs.Marks.{mark_item}
 use Rattle.scrub_names.proofs.mark_item.Goals as goal

@@ -1,6 +1,5 @@
 -- `scrub_names::mark_name` meets its contract. By cases on the name.
 use mathlib.Core.Path.{sym, ◌∙◌}
-use borrow.Author.Rules.{rules}
 use Rattle.pack.proofs.Slots.{label_fits}
 use Rattle.scrub_names.specs.Marks.{mark_name}
 use Rattle.scrub_names.proofs.mark_name.Goals as goal

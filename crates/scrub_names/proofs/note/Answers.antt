@@ -2,13 +2,11 @@
 use Rattle.scrub_marks.specs.declared.Mark.TheVariants as M
 use mathlib.Core.Path.{◌≡◌, sym, ap, ◌∙◌}
 use mathlib.Core.Logic.{inl, inr}
-use Prim.Native.Nat.{ℕ, ◌-◌, ◌<◌}
+use Prim.Native.Nat.{ℕ, ◌<◌}
 use native.Mathlib.Omega.{arith}
 use mathlib.Core.List.{List}
 use lib.ListN.{length, take, get_or}
 use lib.Seq.{length-take-le, get_or-take}
-use borrow.Author.Rules.{rules}
-use borrow.Author.Tests.{not-true, not-false}
 use Rattle.pack.specs.declared.Item.{Item}
 use Rattle.pack.specs.declared.Slot.{Slot}
 use Rattle.pack.specs.Slots.{blank}
@@ -18,7 +16,7 @@ use Rattle.pack_slots.specs.Slots.{slots_in}
 use Rattle.pack_slots.proofs.Laws.{length_in, slot_in}
 use Rattle.scrub_sheet.specs.Asked.{asks}
 use Rattle.scrub_names.specs.Marks.{mark_item}
-use Rattle.scrub_names.proofs.Noting.{Noting, noting_begins, noting_here, noting_few, noting_step, noting_ends, note_gone, note_outside, note_inside, note_seen, note_new}
+use Rattle.scrub_names.proofs.Noting.{noting_begins, noting_here, noting_few, noting_step, noting_ends, note_gone, note_outside, note_inside, note_seen, note_new}
 use Rattle.scrub_names.proofs.Naming.{mark_fits}
 use Rattle.scrub_names.proofs.note.Goals as goal
 use Rattle.scrub_names.proofs.note.Goals.{After-item-item, After-put_mark, In-loop-i, Start}

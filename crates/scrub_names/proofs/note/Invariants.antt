@@ -1,5 +1,4 @@
 -- `scrub_names::note` meets its contract. The loop keeps the arrays that the marks so far make.
-use Rattle.scrub_marks.specs.declared.Mark.TheVariants as M
 use Prim.Native.Nat.{◌-◌}
 use lib.ListN.{take}
 use Rattle.pack.specs.declared.Slot.{Slot}

@@ -1,5 +1,4 @@
 -- `scrub_ops::op_at` meets its contract. By its kind.
-use borrow.Author.Rules.{rules}
 use borrow.Author.Tests.{eq-eqb, ne_eqb}
 use Rattle.scrub_ops.specs.Ops.{op_at}
 use Rattle.scrub_ops.proofs.op_at.Goals as goal

@@ -1,5 +1,4 @@
 -- `scrub_ops::put_four` meets its contract: four stores, one after the other.
-use borrow.Author.Rules.{rules}
 use native.Mathlib.Omega.{arith}
 use lib.ListN.{length-set}
 use Rattle.scrub_ops.proofs.Cells.{stored_four}

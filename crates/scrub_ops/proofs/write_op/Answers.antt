@@ -1,6 +1,5 @@
 -- `scrub_ops::write_op` meets its contract. By cases on the write.
 use Rattle.scrub_ops.specs.Ops.{op_bytes}
-use borrow.Author.Rules.{rules}
 use Rattle.scrub_ops.proofs.Ops.{skip_wrote, op_asks, op_gives}
 use Rattle.scrub_ops.proofs.write_op.Goals as goal
 

@@ -2,7 +2,6 @@
 use mathlib.Core.List.{List, [], ◌++◌}
 use Prim.Native.Nat.{ℕ, ◌+◌}
 use native.Mathlib.Omega.{arith}
-use borrow.Author.Rules.{rules}
 use Rattle.runs.specs.Digits.{digits}
 use Rattle.runs.proofs.Digits.{length_digits}
 use Rattle.runs.proofs.Writing.{Writing, writing_run, room_for, writing_last}

@@ -1,14 +1,13 @@
 -- `scrub_ops::write_ops` meets its contract. The loop keeps that what is left, written now, gives the whole.
 use mathlib.Core.Path.{◌≡◌, sym, ◌∙◌}
-use Prim.Native.Nat.{◌-◌, ◌<◌}
+use Prim.Native.Nat.{◌<◌}
 use native.Mathlib.Omega.{arith}
 use lib.ListN.{take, get_or}
 use lib.Seq.{length-take-le, get_or-take}
-use borrow.Author.Rules.{rules}
 use Rattle.scrub_ops.specs.declared.Op.TheVariants.{Skip}
 use Rattle.scrub_ops.specs.Ops.{ops_in}
 use Rattle.scrub_ops.proofs.Cells.{length_ops, op_in}
-use Rattle.scrub_ops.proofs.Ops.{Left, left_begins, left_room, left_step, left_ends}
+use Rattle.scrub_ops.proofs.Ops.{left_begins, left_room, left_step, left_ends}
 use Rattle.scrub_ops.proofs.write_ops.Goals as goal
 use Rattle.scrub_ops.proofs.write_ops.Goals.{After-op_at-op}
 

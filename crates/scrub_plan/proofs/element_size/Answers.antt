@@ -2,7 +2,6 @@
 use mathlib.Core.Path.{◌≡◌}
 use Prim.Native.Nat.{◌+◌, ◌≤◌}
 use native.Mathlib.Omega.{arith}
-use borrow.Author.Rules.{rules}
 use Rattle.scrub_plan.specs.Planned.{sized}
 use Rattle.scrub_plan.proofs.Items.{size_is}
 use Rattle.scrub_plan.proofs.element_size.Goals as goal

@@ -1,7 +1,6 @@
 -- `scrub_plan::plan_payload` meets its contract.
 use mathlib.Core.Path.{refl}
 use native.Mathlib.Omega.{arith}
-use borrow.Author.Rules.{rules}
 use Rattle.scrub_plan.proofs.Items.{payload_goes, payload_stays}
 use Rattle.scrub_plan.proofs.plan_payload.Goals as goal
 

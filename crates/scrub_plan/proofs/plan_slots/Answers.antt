@@ -14,7 +14,7 @@ use Rattle.scrub_marks.specs.declared.Mark.TheVariants as M
 use Rattle.scrub_marks.specs.Marks.{marks_in}
 use Rattle.scrub_marks.proofs.Cells.{length_marks, mark_in_lem}
 use Rattle.scrub_plan.specs.Planned.{tag_of, slot_plan, SlotSmall, MarkFits}
-use Rattle.scrub_plan.proofs.Going.{Going, going_begins, going_ends, going_on}
+use Rattle.scrub_plan.proofs.Going.{going_begins, going_ends, going_on}
 use Rattle.scrub_plan.proofs.plan_slots.Goals as goal
 use Rattle.scrub_plan.proofs.plan_slots.Goals.{After-item-item, After-mark_in-mark, In-loop-i, Start}
 

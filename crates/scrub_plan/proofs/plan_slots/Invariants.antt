@@ -1,8 +1,6 @@
 -- `scrub_plan::plan_slots` meets its contract. The loop keeps the plan of the slots that it has passed.
-use Prim.Native.Nat.{◌-◌}
 use lib.ListN.{take}
 use Rattle.pack_slots.specs.Slots.{slots_in}
-use Rattle.scrub_marks.specs.declared.Mark.TheVariants as M
 use Rattle.scrub_marks.specs.Marks.{marks_in}
 use Rattle.scrub_plan.proofs.Going.{Going}
 use Rattle.scrub_plan.proofs.plan_slots.Given as goal

@@ -2,7 +2,6 @@
 use Prim.Native.Nat.{◌+◌, ◌≤◌}
 use mathlib.Core.Path.{refl}
 use native.Mathlib.Omega.{arith}
-use borrow.Author.Rules.{rules}
 use Rattle.numbers.proofs.Lengths.{length_small}
 use Rattle.scrub_plan.proofs.Items.{sync_goes, sync_stays}
 use Rattle.scrub_plan.proofs.plan_sync.Goals as goal

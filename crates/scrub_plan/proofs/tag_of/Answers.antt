@@ -1,5 +1,4 @@
 -- `scrub_plan::tag_of` meets its contract. By cases on the mark.
-use borrow.Author.Rules.{rules}
 use Rattle.scrub_plan.proofs.Items.{label_below}
 use Rattle.scrub_plan.proofs.tag_of.Goals as goal
 

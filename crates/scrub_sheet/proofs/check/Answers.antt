@@ -1,6 +1,5 @@
 -- `scrub_sheet::check` meets its contract. By cases on what the sheet asks for; both counts together fit where its length does.
 use native.Mathlib.Omega.{arith}
-use borrow.Author.Rules.{rules}
 use Rattle.scrub_sheet.proofs.Counting.{told_by, counts_fit}
 use Rattle.scrub_sheet.proofs.check.Goals as goal
 

@@ -1,11 +1,9 @@
 -- `scrub_sheet::has_label` meets its contract. The loop keeps what the labels that are left decide.
 use mathlib.Core.Path.{refl, sym, ◌∙◌}
-use Prim.Native.Nat.{◌-◌}
 use native.Mathlib.Omega.{arith}
-use lib.ListN.{take, drop}
 use Rattle.runs.specs.Same.{listed}
 use Rattle.scrub_kept.specs.Sheet.{labels_at}
-use Rattle.scrub_sheet.proofs.Runs.{Left, left_decides, left_passes, left_ends, label_sought}
+use Rattle.scrub_sheet.proofs.Runs.{left_decides, left_passes, left_ends, label_sought}
 use Rattle.scrub_sheet.proofs.has_label.Goals as goal
 
 pub returns-then-same_label : goal.returns-then-same_label

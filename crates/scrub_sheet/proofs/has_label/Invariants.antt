@@ -1,5 +1,4 @@
 -- `scrub_sheet::has_label` meets its contract. The loop keeps what the labels that are left decide.
-use Prim.Native.Nat.{◌-◌}
 use lib.ListN.{take, drop}
 use Rattle.runs.specs.Same.{listed}
 use Rattle.scrub_kept.specs.Sheet.{labels_at}

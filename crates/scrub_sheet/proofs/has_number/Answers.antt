@@ -1,11 +1,10 @@
 -- `scrub_sheet::has_number` meets its contract. The loop keeps what the numbers that are left decide.
 use mathlib.Core.Path.{refl, sym, ◌∙◌}
-use Prim.Native.Nat.{◌-◌}
 use native.Mathlib.Omega.{arith}
 use borrow.Author.Tests.{eq-eqb, ne_eqb}
 use Rattle.runs.specs.Same.{among}
 use Rattle.scrub_kept.specs.Sheet.{numbers_at}
-use Rattle.scrub_sheet.proofs.Runs.{Left, left_decides, left_passes, left_ends, number_sought}
+use Rattle.scrub_sheet.proofs.Runs.{left_decides, left_passes, left_ends, number_sought}
 use Rattle.scrub_sheet.proofs.has_number.Goals as goal
 
 pub returns-then-be32-n : goal.returns-then-be32-n

@@ -1,5 +1,4 @@
 -- `scrub_sheet::has_number` meets its contract. The loop keeps what the numbers that are left decide.
-use Prim.Native.Nat.{◌-◌}
 use Rattle.runs.specs.Same.{among}
 use Rattle.scrub_kept.specs.Sheet.{numbers_at}
 use Rattle.scrub_sheet.proofs.Runs.{Left}

@@ -1,7 +1,5 @@
 -- `scrub_sheet::header_good` meets its contract. Each test is one of the header's, in its order.
 use mathlib.Core.Path.{refl}
-use Prim.Native.Nat.{◌-◌}
-use borrow.Author.Rules.{rules}
 use borrow.Author.Tests.{eq-eqb, ne_eqb, le-leb, lt-leb}
 use Rattle.scrub_sheet.proofs.Header.{header_tested}
 use Rattle.scrub_sheet.proofs.header_good.Goals as goal

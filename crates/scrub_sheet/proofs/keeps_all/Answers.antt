@@ -1,6 +1,5 @@
 -- `scrub_sheet::keeps_all` meets its contract. Each test is one of the header that keeps all, in its order.
 use mathlib.Core.Path.{refl}
-use borrow.Author.Rules.{rules}
 use borrow.Author.Tests.{eq-eqb, ne_eqb}
 use Rattle.scrub_sheet.proofs.Header.{all_tested}
 use Rattle.scrub_sheet.proofs.keeps_all.Goals as goal

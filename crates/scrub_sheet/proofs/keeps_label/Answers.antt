@@ -1,6 +1,5 @@
 -- `scrub_sheet::keeps_label` meets its contract. By cases on what the sheet asks for.
 use native.Mathlib.Omega.{arith}
-use borrow.Author.Rules.{rules}
 use Rattle.scrub_sheet.proofs.Asking.{all_keeps, nothing_keeps, refused_keeps, these_hold, these_label}
 use Rattle.scrub_sheet.proofs.keeps_label.Goals as goal
 

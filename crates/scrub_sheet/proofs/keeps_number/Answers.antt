@@ -1,6 +1,5 @@
 -- `scrub_sheet::keeps_number` meets its contract. A short number by the table, a long one by cases on what the sheet asks for.
 use native.Mathlib.Omega.{arith}
-use borrow.Author.Rules.{rules}
 use Rattle.scrub_sheet.proofs.Asking.{all_keeps, nothing_keeps, refused_keeps, these_hold, these_number}
 use Rattle.scrub_sheet.proofs.keeps_number.Goals as goal
 

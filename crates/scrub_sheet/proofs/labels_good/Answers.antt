@@ -1,9 +1,8 @@
 -- `scrub_sheet::labels_good` meets its contract. The loop keeps what the labels that are left decide.
 use mathlib.Core.Path.{refl, sym, ◌∙◌}
-use Prim.Native.Nat.{◌-◌}
 use native.Mathlib.Omega.{arith}
 use Rattle.scrub_kept.specs.Sheet.{labels_at, labels_good}
-use Rattle.scrub_sheet.proofs.Runs.{Left, left_decides, left_passes, left_ends, label_judged}
+use Rattle.scrub_sheet.proofs.Runs.{left_decides, left_passes, left_ends, label_judged}
 use Rattle.scrub_sheet.proofs.labels_good.Goals as goal
 
 pub returns-then-is_utility : goal.returns-then-is_utility

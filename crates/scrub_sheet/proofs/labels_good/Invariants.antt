@@ -1,5 +1,4 @@
 -- `scrub_sheet::labels_good` meets its contract. The loop keeps what the labels that are left decide.
-use Prim.Native.Nat.{◌-◌}
 use Rattle.scrub_kept.specs.Sheet.{labels_at, labels_good}
 use Rattle.scrub_sheet.proofs.Runs.{Left}
 use Rattle.scrub_sheet.proofs.labels_good.Given as goal

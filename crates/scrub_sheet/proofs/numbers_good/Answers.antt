@@ -1,10 +1,9 @@
 -- `scrub_sheet::numbers_good` meets its contract. The loop keeps what the numbers that are left decide.
 use mathlib.Core.Path.{refl, sym, ◌∙◌}
-use Prim.Native.Nat.{◌-◌}
 use native.Mathlib.Omega.{arith}
 use borrow.Author.Tests.{le-leb, lt-leb}
 use Rattle.scrub_kept.specs.Sheet.{numbers_at, numbers_good}
-use Rattle.scrub_sheet.proofs.Runs.{Left, left_decides, left_passes, left_ends, number_judged, number_small, number_large}
+use Rattle.scrub_sheet.proofs.Runs.{left_decides, left_passes, left_ends, number_judged, number_small, number_large}
 use Rattle.scrub_sheet.proofs.numbers_good.Goals as goal
 
 pub returns-then-n-lt4 : goal.returns-then-n-lt4

@@ -1,5 +1,4 @@
 -- `scrub_sheet::numbers_good` meets its contract. The loop keeps what the numbers that are left decide.
-use Prim.Native.Nat.{◌-◌}
 use Rattle.scrub_kept.specs.Sheet.{numbers_at, numbers_good}
 use Rattle.scrub_sheet.proofs.Runs.{Left}
 use Rattle.scrub_sheet.proofs.numbers_good.Given as goal

@@ -3,7 +3,6 @@ use mathlib.Core.Path.{◌∙◌}
 use mathlib.Core.Bool.{true, false}
 use native.Mathlib.Omega.{arith}
 use lib.ListN.{get_or-replicate}
-use borrow.Author.Rules.{rules}
 use Rattle.scrub_sheet.proofs.Asking.{all_keeps, nothing_keeps, refused_keeps, these_hold, these_number}
 use Rattle.scrub_sheet.proofs.short_numbers.Goals as goal
 

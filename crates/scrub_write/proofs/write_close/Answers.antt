@@ -2,7 +2,6 @@
 use mathlib.Core.Path.{◌∙◌}
 use native.Mathlib.Omega.{arith}
 use lib.ListN.{length-set}
-use borrow.Author.Rules.{rules}
 use Rattle.runs.proofs.Digits.{length_digits}
 use Rattle.scrub_write.proofs.Close.{two_length, closed}
 use Rattle.scrub_write.proofs.write_close.Goals as goal

@@ -3,7 +3,6 @@ use mathlib.Core.List.{List, ◌++◌}
 use Prim.Native.Nat.{ℕ}
 use native.Mathlib.Omega.{arith}
 use lib.ListN.{take, length-append}
-use borrow.Author.Rules.{rules}
 use Rattle.runs.specs.Over.{Wrote}
 use Rattle.runs.proofs.Over.{wrote_length}
 use Rattle.runs.proofs.Writing.{Writing, writing_run, room_for, writing_last}

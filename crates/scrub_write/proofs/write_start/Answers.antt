@@ -2,7 +2,6 @@
 use Prim.Native.Nat.{◌+◌, ◌≤◌}
 use native.Mathlib.Omega.{arith}
 use lib.ListN.{length}
-use borrow.Author.Rules.{rules}
 use Rattle.runs.proofs.Over.{wrote_then}
 use Rattle.numbers.specs.Lengths.{length_bytes}
 use Rattle.pack.specs.Fixed.{key}

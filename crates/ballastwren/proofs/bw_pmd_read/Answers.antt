@@ -1,0 +1,7 @@
+-- `ballastwren::bw_pmd_read` meets its contract: the layer below delivers, and its answer is told.
+use Rattle.refusals.proofs.One.{lends_told}
+use borrow.Author.Rules.{rules}
+use Rattle.ballastwren.proofs.bw_pmd_read.Goals as goal
+
+pub returns : goal.returns
+returns c = lends_told c.pmd_read-a.ensures c.told_answer.ensures
