@@ -21,31 +21,31 @@
  *   `number` is 0 (BW_DONE) on success, and `value` is then a count, which each function explains. Otherwise `number`
  *   is one of enum bw_refusal, and `value` is the place of the fault:
  *
- *     no.  name     place
- *      1   BIG      0
- *      2   SHORT    0
- *      3   KEY      0
- *      4   LENGTH   16 for the pack's own length, else the first byte of the payload
- *      5   TRAIL    0
- *      6   TAG      the first byte of the payload; for a mapping's tag, of the Config
- *      7   CUT      the first byte of the payload
- *      8   PLACE    the first byte of the payload
- *      9   COUNT    the first byte of the payload; for a mapping, of the Config
- *     10   CONFIG   the first byte of the Config
- *     11   MAP      the first byte of the Config
- *     12   SYNC     the first byte of the Sync
- *     13   CRC      the first byte of the CRC payload
- *     14   SHEET    0
- *     15   NOROOM   0
- *     16   BITS     reading: the bit where the field begins; writing: the list's length
- *     17   FIELD    reading: the bit where the field begins; writing: the number's index; bw_gain: 0
- *     18   PAD      the first bit that is left over
- *     19   KIND     0
- *     20   ABSENT   0
- *     21   TABLE    0
- *     22   UNKNOWN  the record's index, from 0; bw_objects_clear: 0
- *     23   STATIC   the record's index, from 0
- *     24   FULL     0
+ *     no.  name    place
+ *      1   BIG     0
+ *      2   SHORT   0
+ *      3   KEY     0
+ *      4   LENGTH  16 for the pack's own length, else the first byte of the payload
+ *      5   TRAIL   0
+ *      6   TAG     the first byte of the payload; for a mapping's tag, of the Config
+ *      7   CUT     the first byte of the payload
+ *      8   PLACE   the first byte of the payload
+ *      9   COUNT   the first byte of the payload; for a mapping, of the Config
+ *     10   CONFIG  the first byte of the Config
+ *     11   MAP     the first byte of the Config
+ *     12   SYNC    the first byte of the Sync
+ *     13   CRC     the first byte of the CRC payload
+ *     14   SHEET   0
+ *     15   NOROOM  0
+ *     16   BITS    reading: the bit where the field begins; writing: the list's length
+ *     17   FIELD   reading: the bit where the field begins; writing: the number's index; bw_gain: 0
+ *     18   PAD     the first bit that is left over
+ *     19   KIND    0
+ *     20   ABSENT  0
+ *     21   TABLE   0
+ *     22   UNKNOWN the record's index, from 0; bw_objects_clear: 0
+ *     23   STATIC  the record's index, from 0
+ *     24   FULL    0
  *
  *   Bytes of a pack are counted from its key, also for payloads inside a Sync. Bits of a PMD value are counted from
  *   its first byte's most significant bit. Of several faults the one that comes first in the order given with each
@@ -63,9 +63,9 @@ extern "C" {
 
 /* The version of this header and of the library beside it; docs/VERSIONS.md says what its numbers tell. */
 #define BW_VERSION_MAJOR 0
-#define BW_VERSION_MINOR 8
+#define BW_VERSION_MINOR 7
 #define BW_VERSION_PATCH 0
-#define BW_VERSION "0.8.0"
+#define BW_VERSION "0.7.0"
 #define BW_VERSION_NUMBER (BW_VERSION_MAJOR * 10000 + BW_VERSION_MINOR * 100 + BW_VERSION_PATCH)
 
 /*
@@ -103,42 +103,46 @@ static const uint8_t bw_keep_all[8] = {0xFF, 0xFF, 0x00, 0x08, 0xFF, 0xFF, 0x00,
 #define BW_TAG_MAX 268435455
 
 enum bw_refusal {
-    BW_DONE = 0,     /* no refusal */
-    BW_BIG = 1,      /* a pack above BW_PACK_MAX, or a PMD value above BW_PMD_VALUE_MAX */
-    BW_SHORT = 2,    /* a pack of under 16 bytes, whose length is cut off, or whose value passes the end of the range */
-    BW_KEY = 3,      /* the first 16 bytes are not the pack key */
-    BW_LENGTH = 4,   /* a length that begins with 80, or with 85 to FF */
-    BW_TRAIL = 5,    /* bytes after the pack's value */
-    BW_TAG = 6,      /* a tag that begins with 00 or 80, or whose fourth byte has its high bit set */
-    BW_CUT = 7,      /* a tag, a length or a value passes the end of its pack or Sync */
-    BW_PLACE = 8,    /* a Config that is not first, a CRC that is not last, or a Config, Sync or CRC inside a Sync */
-    BW_COUNT = 9,    /* the 65th item or inner payload, or the 33rd mapping */
-    BW_CONFIG = 10,  /* a Config value of under 2 bytes, or a mapping that is cut off */
-    BW_MAP = 11,     /* a mapping of tag 1 to 3, of a label of Config, Sync or CRC, or of a tag or label that has one */
-    BW_SYNC = 12,    /* a Sync value of under 4 bytes, or without a payload inside */
-    BW_CRC = 13,     /* a CRC whose length is not 4, or whose value is wrong */
-    BW_SHEET = 14,   /* a keep sheet that is not well formed */
-    BW_NOROOM = 15,  /* what is to be written does not fit */
-    BW_BITS = 16,    /* a PMD value or a list of numbers that ends inside a record, or has none */
-    BW_FIELD = 17,   /* a reserved value, or a number too wide for its field */
-    BW_PAD = 18,     /* bits left over after the last record that are not all 0 */
-    BW_KIND = 19,    /* not one of enum bw_kind; for a table of objects, neither BW_AOD nor BW_XYZ */
-    BW_ABSENT = 20,  /* a label that neither pack carries, or that is not of 16 bytes */
+    BW_DONE = 0,    /* no refusal */
+    BW_BIG = 1,     /* a pack above BW_PACK_MAX, or a PMD value above BW_PMD_VALUE_MAX */
+    BW_SHORT = 2,   /* a pack of under 16 bytes, whose length is cut off, or whose value passes the end of the range */
+    BW_KEY = 3,     /* the first 16 bytes are not the pack key */
+    BW_LENGTH = 4,  /* a length that begins with 80, or with 85 to FF */
+    BW_TRAIL = 5,   /* bytes after the pack's value */
+    BW_TAG = 6,     /* a tag that begins with 00 or 80, or whose fourth byte has its high bit set */
+    BW_CUT = 7,     /* a tag, a length or a value passes the end of its pack or Sync */
+    BW_PLACE = 8,   /* a Config that is not first, a CRC that is not last, or a Config, Sync or CRC inside a Sync */
+    BW_COUNT = 9,   /* the 65th item or inner payload, or the 33rd mapping */
+    BW_CONFIG = 10, /* a Config value of under 2 bytes, or a mapping that is cut off */
+    BW_MAP = 11,    /* a mapping of tag 1 to 3, of a label of Config, Sync or CRC, or of a tag or label mapped before */
+    BW_SYNC = 12,   /* a Sync value of under 4 bytes, or without a payload inside */
+    BW_CRC = 13,    /* a CRC whose length is not 4, or whose value is wrong */
+    BW_SHEET = 14,  /* a keep sheet that is not well formed */
+    BW_NOROOM = 15, /* what is to be written does not fit */
+    BW_BITS = 16,   /* a PMD value or a list of numbers that ends inside a record, or has none */
+    BW_FIELD = 17,  /* a reserved value, or a number too wide for its field */
+    BW_PAD = 18,    /* bits left over after the last record that are not all 0 */
+    BW_KIND = 19,   /* not one of enum bw_kind; for a table of objects, neither BW_AOD nor BW_XYZ */
+    BW_ABSENT = 20, /* a label that neither pack carries, or that is not of 16 bytes */
+
+    /* of bw_objects_apply and bw_objects_clear alone */
     BW_TABLE = 21,   /* a table of objects that is not well formed */
     BW_UNKNOWN = 22, /* an element that no used entry of the table has */
     BW_STATIC = 23,  /* a position for an entry whose dynamic is 0 */
     BW_FULL = 24     /* more new elements than the table has free entries */
 };
 
-/* The refusal's name in capitals ("SHORT"), "DONE" for 0, "UNNAMED" for a number that no function gives. */
+/*
+ * The refusal's name in capitals ("SHORT"), "DONE" for 0, "UNKNOWN" for a number that no function gives. The four
+ * refusals of a table of objects, BW_TABLE to BW_FULL, have no names here yet: it says "UNKNOWN" for each of them.
+ */
 static inline const char *bw_refusal_name(uint64_t number)
 {
     static const char *const names[] = {
-        "DONE",  "BIG",    "SHORT",  "KEY",   "LENGTH",  "TRAIL",  "TAG",    "CUT",  "PLACE",
-        "COUNT", "CONFIG", "MAP",    "SYNC",  "CRC",     "SHEET",  "NOROOM", "BITS", "FIELD",
-        "PAD",   "KIND",   "ABSENT", "TABLE", "UNKNOWN", "STATIC", "FULL"
+        "DONE", "BIG",  "SHORT", "KEY",   "LENGTH", "TRAIL", "TAG",   "CUT", "PLACE", "COUNT", "CONFIG",
+        "MAP",  "SYNC", "CRC",   "SHEET", "NOROOM", "BITS",  "FIELD", "PAD", "KIND",  "ABSENT"
     };
-    return number < sizeof names / sizeof names[0] ? names[number] : "UNNAMED";
+    return number < sizeof names / sizeof names[0] ? names[number] : "UNKNOWN";
 }
 
 /* number 0 and a count, or a refusal and its place. */

@@ -1,7 +1,8 @@
 #!/usr/bin/env bash
 # Installs into a folder, whose name has a space, and builds from there by pkg-config, over the shared library and over the
-# archive: examples/controller.c, held to what it prints for a keep sheet and eight packs, most of them with something to drop,
-# and for objects that it takes from its table; and README's lines of C, as they stand there.
+# archive: examples/controller.c, held to what it prints for a keep sheet and five packs, most of them with something to drop;
+# examples/objects.c, held to what it prints for eight packs and for objects that it takes from its table; and README's lines
+# of C, as they stand there.
 set -uo pipefail
 cd "$(dirname "${BASH_SOURCE[0]}")/.." || exit 2
 . tests/tools.sh
@@ -25,19 +26,12 @@ key='06 0E 2B 34 02 7F 01 01 0C 04 01 00 00 00 00 00'
 positions='06 0E 2B 34 04 01 01 0D 04 04 02 0D 00 00 00 00'
 objects='06 0E 2B 34 04 01 01 0D 04 04 02 06 00 00 00 00'
 
-# Keeps the labels of positions and objects and number 300.
-put sheet '0002 0008 0001 0028' "$positions" "$objects" '0000012C'
-# Pack offset -2; tags 50 and 51 are mapped to positions and objects. Objects 1, 3 and 4, a position of the first, a Sync of
-# positions of the others and a payload of number 7.
-put moving "$key" 62 '01 24 FFFE 50' "$positions" 51 "$objects" \
-    '51 1A 00 10 81 40 A0 3C 00 07 30 03 28 0A 02 80 A3 80 80 00 46 80 20 08 03 F4 0F F0' '50 06 04 00 40 18 03 FF' \
+# Keeps the label of positions and number 300.
+put sheet '0001 0008 0001 0018' "$positions" '0000012C'
+# Pack offset -2; tags 50 and 51 are mapped to positions and objects. A value of positions, an object, a Sync of
+# another value of positions and a payload of number 7.
+put moving "$key" 4E '01 24 FFFE 50' "$positions" 51 "$objects" '50 06 04 00 40 18 03 FF' '51 06 6F 62 6A 65 63 74' \
     '02 16 0010 0020 50 0C 14 00 C6 43 21 2C 00 4F FC 01 80 00 07 02 AA BB'
-# In a Sync an object 9 that is not dynamic, and a position for it; positions of object 1 and of one that is not there.
-put fixed "$key" 3F '01 24 0000 50' "$positions" 51 "$objects" \
-    '02 0F 0000 0000 51 09 00 91 00 E0 40 12 00 13 20' '50 06 00 02 40 10 04 01'
-put strange "$key" 23 '01 13 0000 50' "$positions" '50 0C 00 00 40 90 24 09 04 D0 04 01 00 40'
-# Object 5.
-put late "$key" 20 '01 13 0000 51' "$objects" '51 09 00 53 85 01 90 78 10 14 10'
 # Number 300, kept, under a length form that is longer than it need be.
 put still "$key" 07 '82 2C 83 00 00 01 AA'
 put nothing "$key" 00
@@ -46,6 +40,34 @@ put reserved "$key" 1D '01 13 0000 40' "$positions" '40 06 00 00 40 08 03 FF'
 put cut "$key" 02 '05 01'
 
 cat >"$folder/expected" <<'LINES'
+moving: 95 bytes scrubbed to 72, pack offset -2
+moving: object 1 at 1 512 1023, sample time 1, total offset -2
+moving: object 3 at 100 200 300, sample time 5, total offset 14
+moving: object 4 at 1023 1 512, sample time 5, total offset 14
+still: 24 bytes scrubbed to 27, pack offset 0
+nothing: 17 bytes scrubbed to 23, pack offset 0
+reserved: 46 bytes scrubbed to 52, pack offset 0
+reserved: refused FIELD at 18
+cut: refused CUT at 17
+LINES
+
+# The same for a table of objects, in a folder of its own.
+mkdir "$folder/table" && cp "$folder"/{still,nothing,reserved,cut} "$folder/table" || exit 2
+# Keeps the labels of positions and objects and number 300.
+put table/sheet '0002 0008 0001 0028' "$positions" "$objects" '0000012C'
+# Pack offset -2; tags 50 and 51 are mapped to positions and objects. Objects 1, 3 and 4, a position of the first, a Sync of
+# positions of the others and a payload of number 7.
+put table/moving "$key" 62 '01 24 FFFE 50' "$positions" 51 "$objects" \
+    '51 1A 00 10 81 40 A0 3C 00 07 30 03 28 0A 02 80 A3 80 80 00 46 80 20 08 03 F4 0F F0' '50 06 04 00 40 18 03 FF' \
+    '02 16 0010 0020 50 0C 14 00 C6 43 21 2C 00 4F FC 01 80 00 07 02 AA BB'
+# In a Sync an object 9 that is not dynamic, and a position for it; positions of object 1 and of one that is not there.
+put table/fixed "$key" 3F '01 24 0000 50' "$positions" 51 "$objects" \
+    '02 0F 0000 0000 51 09 00 91 00 E0 40 12 00 13 20' '50 06 00 02 40 10 04 01'
+put table/strange "$key" 23 '01 13 0000 50' "$positions" '50 0C 00 00 40 90 24 09 04 D0 04 01 00 40'
+# Object 5.
+put table/late "$key" 20 '01 13 0000 51' "$objects" '51 09 00 53 85 01 90 78 10 14 10'
+
+cat >"$folder/table/expected" <<'LINES'
 moving: 115 bytes scrubbed to 117, pack offset -2
 moving: object 1 moves to 1 512 1023, sample time 1, total offset -2
 moving: object 3 moves to 100 200 300, sample time 5, total offset 14
@@ -101,17 +123,23 @@ run() {
     LD_LIBRARY_PATH=$prefix/lib $RUN "$folder/$1" "${@:2}"
 }
 
-# Objects 3 and 9 are taken from the table, and the first of their entries is used again. Status 1 is right: a pack, some
-# values and some objects are refused.
+# Status 1 is right: two of the packs are refused.
 controls() {
     build "$1" examples/controller.c -std=c99 -O2 || return
-    (cd "$folder" && run "$1" sheet moving fixed strange -3 -9 -3 -x late still nothing reserved cut >printed; [[ $? -eq 1 ]]) &&
-        diff "$folder/expected" "$folder/printed"
+    (cd "$folder" && run "$1" sheet moving still nothing reserved cut >printed; [[ $? -eq 1 ]]) && diff "$folder/expected" "$folder/printed"
+}
+
+# Objects 3 and 9 are taken from the table, and the first of their entries is used again. Status 1 is right: a pack, some
+# values and some objects are refused.
+keeps_table() {
+    build "$1" examples/objects.c -std=c99 -O2 || return
+    (cd "$folder/table" && run "$1" sheet moving fixed strange -3 -9 -3 -x late still nothing reserved cut >printed; [[ $? -eq 1 ]]) &&
+        diff "$folder/table/expected" "$folder/table/printed"
 }
 
 # What is accepted whole leaves status 0.
 accepted() {
-    (cd "$folder" && run "$1" sheet moving -3 late -5 nothing >printed) && [[ $(wc -l <"$folder/printed") -eq 12 ]]
+    (cd "$folder/table" && run "$1" sheet moving -3 late -5 nothing >printed) && [[ $(wc -l <"$folder/table/printed") -eq 12 ]]
 }
 
 # A sheet that is refused is told by its own name, once and before any pack; one of 0 bytes is told to keep nothing.
@@ -153,9 +181,11 @@ uninstalled() {
 check "make install, below a folder with a space in its name" make -s install PREFIX="$prefix" ARCH="$ARCH" CC="$CC"
 check "the shared library exports bw_… alone, as $soname" exports
 for module in ballastwren ballastwren-static; do
-    check "$module: examples/controller.c prints the positions that are kept, and its table" controls "$module"
-    check "$module: the controller's status is 0 where nothing is refused" accepted "$module"
+    check "$module: examples/controller.c prints the positions that are kept" controls "$module"
     check "$module: the controller tells what is wrong with a sheet" sheets_told "$module"
+    check "$module: examples/objects.c prints the table that it keeps" keeps_table "$module"
+    check "$module: its status is 0 where nothing is refused" accepted "$module"
+    check "$module: it tells what is wrong with a sheet" sheets_told "$module"
     check "$module: README's lines of C compile as they stand" as_in_readme "$module"
 done
 check "ballastwren links the shared library" links_shared ballastwren

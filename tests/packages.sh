@@ -35,7 +35,7 @@ compiled() {
     mapfile -t words < <(PKG_CONFIG_SYSROOT_DIR=$place PKG_CONFIG_LIBDIR=$place/$library/pkgconfig PKG_CONFIG_ALLOW_SYSTEM_CFLAGS=1 \
         PKG_CONFIG_ALLOW_SYSTEM_LIBS=1 pkg-config --cflags --libs "$1" | xargs -n 1 printf '%s\n')
     "$CC" -o "$place/$1" examples/controller.c "${words[@]}" &&
-        LD_LIBRARY_PATH=$place/$library $RUN "$place/$1" samples/sheets/rack.sheet samples/packs/sync.pack
+        LD_LIBRARY_PATH=$place/$library $RUN "$place/$1" samples/sheets/rack.sheet samples/packs/incident.pack
 }
 
 removed() {

@@ -4,7 +4,7 @@
 # The words that may stand next, given the subcommand's words and how many operands stand before; 'files' for a file.
 _ballastwren_next() {
     case $1:$2 in
-    :*) echo 'check list scrub lookup objects sheet pmd --help --version' ;;
+    :*) echo 'check list scrub lookup sheet pmd --help --version' ;;
     sheet:*) echo 'make show --help' ;;
     pmd:*) echo 'read write find --help' ;;
     'pmd read:0' | 'pmd write:0') echo 'APD APN AOD XYZ AEN ESN ETD' ;;

@@ -3,6 +3,14 @@
 #include "escape.h"
 #include "exits.h"
 
+/* The refusal's name. The header has none for those of a table of objects. */
+static const char *refusal_name(uint64_t number)
+{
+    static const char *const names[] = {"TABLE", "UNKNOWN", "STATIC", "FULL"};
+
+    return number >= BW_TABLE && number <= BW_FULL ? names[number - BW_TABLE] : bw_refusal_name(number);
+}
+
 const char *refusal_sentence(uint64_t number)
 {
     static const char *const sentences[] = {
@@ -46,7 +54,7 @@ static void begin(const char *name)
 static void begin_refusal(const char *name, uint64_t number, const char *unit, uint64_t place)
 {
     begin(name);
-    fprintf(stderr, "refused: %s (%llu) at %s %llu: ", bw_refusal_name(number), (unsigned long long)number, unit,
+    fprintf(stderr, "refused: %s (%llu) at %s %llu: ", refusal_name(number), (unsigned long long)number, unit,
             (unsigned long long)place);
 }
 
@@ -96,6 +104,6 @@ int trouble(const char *name, const char *sentence)
 
 void print_refused_member(FILE *to, bw_answer answer)
 {
-    fprintf(to, "\"refused\":{\"name\":\"%s\",\"number\":%llu,\"place\":%llu}", bw_refusal_name(answer.number),
+    fprintf(to, "\"refused\":{\"name\":\"%s\",\"number\":%llu,\"place\":%llu}", refusal_name(answer.number),
             (unsigned long long)answer.number, (unsigned long long)answer.value);
 }

@@ -202,6 +202,11 @@ fn join(numbers: &[u32]) -> String {
 
 #[test]
 fn requests() {
+    run("2026-05.tsv");
+}
+
+#[test]
+fn tables_of_objects() {
     run("2026-06.tsv");
 }
 

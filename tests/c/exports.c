@@ -37,14 +37,21 @@ static void test(bool (*try)(const void *), const void *c, const char *function,
     report(good, function, name);
 }
 
+/* The header's name, or one for the refusals of a table of objects, which it does not name. */
+static const char *name_of(uint64_t number)
+{
+    static const char *const names[] = {"TABLE", "UNKNOWN", "STATIC", "FULL"};
+    return number >= BW_TABLE && number <= BW_FULL ? names[number - BW_TABLE] : bw_refusal_name(number);
+}
+
 static bool is(bw_answer answer, uint64_t number, uint64_t value)
 {
     if (answer.number <= BW_FULL)
         met[answer.number] = true;
     if (answer.number == number && answer.value == value)
         return true;
-    printf("got %s %llu, expected %s %llu\n", bw_refusal_name(answer.number), (unsigned long long)answer.value,
-           bw_refusal_name(number), (unsigned long long)value);
+    printf("got %s %llu, expected %s %llu\n", name_of(answer.number), (unsigned long long)answer.value,
+           name_of(number), (unsigned long long)value);
     return false;
 }
 
@@ -945,17 +952,19 @@ static void names(void)
     size_t all_len;
     bool good = strcmp(bw_refusal_name(BW_DONE), "DONE") == 0 && strcmp(bw_refusal_name(BW_BIG), "BIG") == 0 &&
                 strcmp(bw_refusal_name(BW_SHEET), "SHEET") == 0 && strcmp(bw_refusal_name(BW_ABSENT), "ABSENT") == 0 &&
-                strcmp(bw_refusal_name(BW_TABLE), "TABLE") == 0 && strcmp(bw_refusal_name(BW_FULL), "FULL") == 0 &&
-                strcmp(bw_refusal_name(BW_UNKNOWN), "UNKNOWN") == 0 &&
-                strcmp(bw_refusal_name(BW_STATIC), "STATIC") == 0 && strcmp(bw_refusal_name(25), "UNNAMED") == 0 &&
-                strcmp(bw_refusal_name(UINT64_MAX), "UNNAMED") == 0;
+                strcmp(bw_refusal_name(21), "UNKNOWN") == 0 && strcmp(bw_refusal_name(UINT64_MAX), "UNKNOWN") == 0;
     report(good, "bw_refusal_name", "first, last and beyond");
+    good = strcmp(bw_refusal_name(BW_UNKNOWN), "UNKNOWN") == 0 && strcmp(bw_refusal_name(BW_STATIC), "UNKNOWN") == 0 &&
+           strcmp(bw_refusal_name(BW_FULL), "UNKNOWN") == 0 && strcmp(bw_refusal_name(25), "UNKNOWN") == 0;
+    report(good, "bw_refusal_name", "those of a table of objects");
     const uint8_t *all = bytes_of(ALL, &all_len);
     report(all_len == sizeof bw_keep_all && memcmp(all, bw_keep_all, all_len) == 0, "bw_keep_all", "its bytes");
     report(sizeof(bw_answer) == 16 && sizeof(bw_found) == 40 && sizeof(bw_gain_answer) == 12, "answers", "their sizes");
     report(sizeof(bw_object) == 44 && offsetof(bw_object, gain) == 40, "bw_object", "its size");
-    for (int number = BW_DONE; number <= BW_FULL; number++)
+    for (int number = BW_DONE; number <= BW_ABSENT; number++)
         report(met[number], "met", bw_refusal_name((uint64_t)number));
+    for (int number = BW_TABLE; number <= BW_FULL; number++)
+        report(met[number], "met", name_of((uint64_t)number));
 }
 
 int main(int count, char **arguments)

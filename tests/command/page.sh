@@ -22,7 +22,7 @@ completes() {
     ) >"$T/out"
     [[ $(<"$T/out") == "$1" ]] || { cat "$T/out"; return 1; }
 }
-check 'completion: subcommands' completes 'check list scrub lookup objects sheet pmd --help --version' ballastwren ''
+check 'completion: subcommands' completes 'check list scrub lookup sheet pmd --help --version' ballastwren ''
 check 'completion: a subcommand begun' completes 'scrub sheet' ballastwren s
 check 'completion: the second word' completes 'make show --help' ballastwren sheet ''
 check 'completion: kinds' completes 'APD APN AOD AEN' ballastwren pmd read A

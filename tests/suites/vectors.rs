@@ -192,6 +192,11 @@ fn or_dash(text: String) -> String {
 
 #[test]
 fn requests() {
+    run("2026-05.tsv");
+}
+
+#[test]
+fn tables_of_objects() {
     run("2026-06.tsv");
 }
 

@@ -6,7 +6,7 @@ abbrev pub major : ℕ
 major = 0
 
 abbrev pub minor : ℕ
-minor = 8
+minor = 7
 
 abbrev pub patch : ℕ
 patch = 0

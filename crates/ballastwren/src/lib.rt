@@ -47,7 +47,7 @@ pub struct ToldGain {
 // The version, as include/ballastwren.h has it.
 const MAJOR: u32 = 0;
 
-const MINOR: u32 = 8;
+const MINOR: u32 = 7;
 
 const PATCH: u32 = 0;
 

@@ -2,8 +2,8 @@
 //! is what is instrumented: the fuzzer looks for inputs that take it another way.
 //!
 //! An input is two bytes, which choose the functions and how a pack is completed, then the pack, keep sheet, label, PMD
-//! value, numbers or table of objects. Completing a pack (key, own length, CRC) lets the fuzzer work on what stands
-//! behind them.
+//! value or numbers. Completing it (key, own length, CRC) lets the fuzzer work on what stands behind them. Every second
+//! form of a PMD value is taken as a table of objects and a value for it as well.
 
 use std::sync::{Mutex, OnceLock};
 
@@ -50,11 +50,11 @@ fn calls(input: &[u8]) -> Vec<Call> {
             let scrub = Call::Scrub { sheet: sheet.to_vec(), pack: pack(choice, body), out };
             vec![Call::SheetCheck { sheet: sheet.to_vec() }, scrub]
         }
-        5 => {
+        5 | 6 => {
             let read = |kind| Call::PmdRead { kind, value: rest.to_vec(), numbers: vec![77; 4 * room] };
-            kinds(choice).map(read).collect()
+            let tables = if choice & 7 == 6 { table_calls(choice, room, rest) } else { vec![] };
+            kinds(choice).map(read).chain(tables).collect()
         }
-        6 => table_calls(choice, room, rest),
         _ => {
             let numbers: Vec<u32> = rest.chunks(2).map(number).collect();
             let write = |kind| Call::PmdWrite { kind, numbers: numbers.clone(), out: vec![0xA5; 4 * room] };
