@@ -19,7 +19,7 @@ const char help_all[] =
     "  ballastwren --help, ballastwren --version\n"
     "\n"
     "Each subcommand has a --help of its own. '-' is standard input or standard output.\n"
-    "Exit status: 0 accepted; 1 refused, with a line on standard error for each fault; 2 wrong usage, or a file that\n"
+    "Exit status: 0 accepted; 1 refused, with one line on standard error; 2 wrong usage, or a file that\n"
     "cannot be read or written.\n";
 
 const char help_check[] =
