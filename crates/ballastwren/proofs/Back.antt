@@ -2,8 +2,7 @@
 use mathlib.Core.Path.{◌≡◌, refl, sym, ap, ◌∙◌}
 use mathlib.Core.List.{List}
 use mathlib.Core.Bool.{true}
-use Prim.Native.Nat.{ℕ, ◌≤◌, zero-le}
-use native.Mathlib.Omega.{arith}
+use Prim.Native.Nat.{ℕ, ◌≤◌}
 use lib.Dec.{ltb}
 use lib.ListN.{length}
 use borrow.Author.Tests.{ltb-true, ltb-false, lt-leb}
@@ -33,11 +32,6 @@ kept_refused : (c : Call) (t : List Object) → answer good c t ≡ A.Refused R.
 unfolding next
 kept_refused c t e = rw e
 
--- no more entries go back than there are
-back_few : (len : ℕ) (a : Answer) → (reply_of len a).back ≤ len
-back_few len (A.Done n) = omega arith
-back_few len (A.Refused why place) = zero-le
-
 -- what C is told of a reply
 abbrev pub told_by : Reply → Told
 told_by r = record { number = r.number; value = r.value }
@@ -49,14 +43,6 @@ told_reply len (A.Refused why place) = refl
 module _ (c : Call) (t : List Object) (zs : List ℕ) (r : Reply) (after : List ℕ) where
   abbrev n : ℕ
   n = length t
-
-  pub replied_few : Replied c n (loaded t zs (counted n)) r after → (r.back ≤ 128) × (r.back ≤ n)
-  replied_few o =
-      let b = back_few n o.answer in
-      split (ltb 128 n)
-      (λ l. let a : o.answer ≡ A.Refused R.Table 0 = rw l at o.applied.told in
-      rw (o.is, a) (zero-le, zero-le))
-      (λ l. let m = ltb-false 128 n l in rw o.is (omega arith, b))
 
   -- the lent table after the call is the one that the array holds, or as it was
   written_back : (a : Answer) → kept a t (held n after) ≡ next good c t → stored t after (reply_of n a).back ≡ next good c t

@@ -1,7 +1,6 @@
 -- `ballastwren::bw_check` meets its contract: the layer below answers, and its answer is told.
 use mathlib.Core.Path.{ap, ◌∙◌}
 use Rattle.ballastwren.specs.Told.{told_of}
-use borrow.Author.Rules.{rules}
 use Rattle.ballastwren.proofs.bw_check.Goals as goal
 
 pub returns : goal.returns

@@ -1,7 +1,6 @@
 -- `ballastwren::bw_gain` meets its contract: each case of the level is told by its three numbers, and the half decibels fit 32 bits.
 use Prim.Native.Nat.{ℕ}
 use mathlib.Core.Path.{sym, ap, ◌∙◌}
-use borrow.Author.Rules.{rules}
 use lib.IntN.{ℤ, pos}
 use mir.Facts.{to_z-of_z}
 use Rattle.pmd.proofs.Levels.{level_fits}

@@ -1,7 +1,6 @@
 -- `ballastwren::bw_lookup` meets its contract: the layer below answers, and its answer is told.
 use mathlib.Core.Path.{ap, ◌∙◌}
 use Rattle.ballastwren.specs.Told.{told_found_of}
-use borrow.Author.Rules.{rules}
 use Rattle.ballastwren.proofs.bw_lookup.Goals as goal
 
 pub returns : goal.returns

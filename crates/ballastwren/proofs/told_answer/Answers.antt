@@ -2,7 +2,6 @@
 use Prim.Native.Nat.{ℕ}
 use mathlib.Core.Path.{ap, sym, ◌∙◌}
 use Rattle.ballastwren.specs.Told.{told_of}
-use borrow.Author.Rules.{rules}
 use Rattle.ballastwren.proofs.told_answer.Goals as goal
 
 pub returns-in-Done : goal.returns-in-Done
