@@ -1,5 +1,4 @@
 -- `demands::check_and_look_up` meets its contract: a look-up tells of two packs what their checks tell, and of a label what the packs say.
-use borrow.Author.Rules.{rules}
 use Rattle.demands.proofs.Calls.{check_then_look_up}
 use Rattle.demands.proofs.check_and_look_up.Goals as goal
 

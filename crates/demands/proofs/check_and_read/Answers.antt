@@ -1,5 +1,4 @@
 -- `demands::check_and_read` meets its contract: a check tells what reading tells.
-use borrow.Author.Rules.{rules}
 use Rattle.demands.proofs.Calls.{check_then_read}
 use Rattle.demands.proofs.check_and_read.Goals as goal
 

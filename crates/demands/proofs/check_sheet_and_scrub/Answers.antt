@@ -1,5 +1,4 @@
 -- `demands::check_sheet_and_scrub` meets its contract: a scrub tells of the sheet what its check tells.
-use borrow.Author.Rules.{rules}
 use Rattle.demands.proofs.Calls.{check_then_scrub}
 use Rattle.demands.proofs.check_sheet_and_scrub.Goals as goal
 

@@ -1,5 +1,4 @@
 -- `demands::read_and_write` meets its contract: a value comes back from its fields.
-use borrow.Author.Rules.{rules}
 use Rattle.pmd.specs.Reading.{fields_read}
 use Rattle.demands.proofs.Calls.{read_refused, read_then_write}
 use Rattle.demands.proofs.Parts.{lent_part}

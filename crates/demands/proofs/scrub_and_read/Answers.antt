@@ -1,6 +1,5 @@
 -- `demands::scrub_and_read` meets its contract: what was written says what was kept, and its rows are those that are read.
 use lib.ListN.{length}
-use borrow.Author.Rules.{rules}
 use Rattle.scrub_kept.specs.Scrubbed.{scrubbed}
 use Rattle.demands.proofs.Calls.{scrub_refused, scrub_then_read}
 use Rattle.demands.proofs.Parts.{leaves_part}

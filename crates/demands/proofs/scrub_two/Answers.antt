@@ -1,5 +1,4 @@
 -- `demands::scrub_two` meets its contract: what two scrubs tell and leave is what the page of promises says of them.
-use borrow.Author.Rules.{rules}
 use Rattle.demands.proofs.Calls.{scrub_two}
 use Rattle.demands.proofs.scrub_two.Goals as goal
 

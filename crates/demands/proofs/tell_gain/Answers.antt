@@ -1,5 +1,4 @@
 -- `demands::tell_gain` meets its contract: a gain is told by document 01's ranges.
-use borrow.Author.Rules.{rules}
 use Rattle.demands.proofs.Calls.{tell_gain}
 use Rattle.demands.proofs.tell_gain.Goals as goal
 

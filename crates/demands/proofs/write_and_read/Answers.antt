@@ -1,5 +1,4 @@
 -- `demands::write_and_read` meets its contract: fields come back from their value.
-use borrow.Author.Rules.{rules}
 use Rattle.pmd.specs.Writing.{fields_written}
 use Rattle.demands.proofs.Calls.{write_refused, write_then_read}
 use Rattle.demands.proofs.Parts.{lent_part}
