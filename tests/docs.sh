@@ -57,7 +57,7 @@ theorems_promised() {
     local name text
     text=$(tr '\n' ' ' <docs/GUARANTEES.md)
     while read -r name; do
-        if stated "$name" "$promises" || grep -qE "^pub fn $name[<(]" crates/*/src/*.rt || specified "$name" "$text"; then
+        if stated "$name" "$promises" || grep -qE "^pub fn ${name}[<(]" crates/*/src/*.rt || specified "$name" "$text"; then
             told yes
         else
             told no "docs/GUARANTEES.md: $name is not on the page of promises"
