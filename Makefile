@@ -8,7 +8,7 @@
 #   make uninstall  remove them again
 #   make deb        the Debian packages ballastwren and libballastwren-dev
 #   make test       the gate: the same as .ci/run
-#   make check      prove what has changed, quickly
+#   make check      prove what has changed and run the programs, quickly
 #   make fuzz       compare archive and reference on what a fuzzer finds, for SECONDS (default 60)
 #   make bench      speeds beside the reference's, and the CRC's beside libavutil's
 #   make clean      remove everything that was built
@@ -54,6 +54,7 @@ test:
 
 check:
 	rt all check
+	tests/programs.sh
 
 fuzz: lib
 	ARCH=$(ARCH) tests/fuzz.sh $(or $(SECONDS),60)

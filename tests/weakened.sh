@@ -2,8 +2,7 @@
 # Shows that the demands rest on the contracts of the exports. In a copy of the tree some exports promise what they do only where they succeed, and in
 # another only where they refuse: crates/ballastwren still meets that, and the page of promises still stands; but each function of crates/demands that
 # calls such an export must be refused, in its own proof, and every other must still be proved. No function there calls two exports that are weakened
-# at once. Left out are bw_version, which cannot refuse, and the two exports that are lent a table of objects: a function that calls one is walked by hand,
-# as they are, and crates/demands has none.
+# at once. Left out are bw_version, which cannot refuse, and the two exports that are lent a table of objects, which no function of crates/demands calls.
 # Ends with 'N passed, M failed'.
 set -uo pipefail
 cd "$(dirname "$0")/.." || exit 2
