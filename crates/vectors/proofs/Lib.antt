@@ -1,3 +1,4 @@
 pub mod Blocks
 pub mod Filling
 pub mod Loops
+pub mod Reading
