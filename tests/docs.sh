@@ -133,16 +133,21 @@ index() {
     done < <(sed -nE 's/^- \[([^]]*)\].*/\1/p' docs/DECISIONS.md)
 }
 
-# functions: each public function as CRATE::NAME, and on the same line its clauses on what it answers and leaves, each behind a '|'.
+# functions: each public function as CRATE::NAME, or as CRATE::TYPE::NAME where it is a method, and on the same line its clauses on what it answers and
+# leaves, each behind a '|'.
 functions() {
-    awk '/^pub (extern "C" )?fn / {
-            name = $0; sub(/^pub (extern "C" )?fn /, "", name); sub(/[<(].*/, "", name)
+    awk '/^impl/ {
+            type = $0; sub(/^impl(<[^>]*>)? /, "", type); sub(/[<{ ].*/, "", type); type = type "::"
+        }
+        /^\}$/ { type = "" }
+        /^(    )?pub (extern "C" )?(const )?fn / {
+            name = $0; sub(/^ *pub (extern "C" )?(const )?fn /, "", name); sub(/[<(].*/, "", name)
             crate = FILENAME; sub(/^crates\//, "", crate); sub(/\/.*/, "", crate); text = ""
         }
         name != "" { text = text " " $0 }
-        name != "" && /^\{$/ {
-            gsub(/\|/, "", text); gsub(/ ensures ([a-z_]+ )?\{ /, "|", text)
-            print crate "::" name " " (index(text, "|") ? substr(text, index(text, "|")) : ""); name = ""
+        name != "" && /^(    )?\{$/ {
+            gsub(/\|/, "", text); gsub(/ +ensures ([a-z_]+ )?\{ /, "|", text)
+            print crate "::" type name " " (index(text, "|") ? substr(text, index(text, "|")) : ""); name = ""
         }' crates/*/src/*.rt
 }
 
@@ -174,7 +179,7 @@ outcomes() {
     while read -r name contract; do contracts[$name]=$contract; done < <(functions)
     while read -r line; do
         [[ $line == "### "* ]] && heading=${line#\#\#\# }
-        for name in $(grep -oE '`[a-z_0-9]+::[a-z_0-9]+`' <<<"$line" | tr -d '`'); do
+        for name in $(grep -oE '`[a-z_0-9]+(::[A-Z][A-Za-z0-9]*)?::[a-z_0-9]+`' <<<"$line" | tr -d '`'); do
             stands[$name]=${stands[$name]:-}x
             [[ $heading == Exceptions ]] && open=$((open + 1))
             if formed "$heading" "${contracts[$name]:-}"; then told yes; else told no "docs/GUARANTEES.md: $name has no contract for '$heading'"; fi

@@ -6,7 +6,8 @@ use native.Mathlib.Omega.{arith}
 use lib.ListN.{length}
 use Rattle.runs.specs.Digits.{Bytes}
 use Rattle.runs.proofs.Cases.{absurd_eq}
-use Rattle.refusals.specs.declared.Answer.TheVariants as A
+use Rattle.std.specs.Prelude.{Err}
+use Rattle.refusals.specs.Refusals.{refused_at}
 use Rattle.refusals.specs.declared.Refusal.{Refusal}
 use Rattle.refusals.specs.Outcomes.{Outcome, fine, refused, and_then, answered}
 use Rattle.refusals.specs.Lent.{within}
@@ -54,8 +55,8 @@ agree room (fine r) =
     )
 agree room (refused why place) = (
   λ h. refl,
-  λ z h. let never = done_told (A.Refused why place) z in absurd_eq (cc),
-  λ z h. let never = done_told (A.Refused why place) z in absurd_eq (cc),
+  λ z h. let never = done_told (Err (refused_at why place)) z in absurd_eq (cc),
+  λ z h. let never = done_told (Err (refused_at why place)) z in absurd_eq (cc),
 )
 
 pub check_then_read : (pack : List ℕ) {before after : List ℕ} {a b : Told} → a ≡ told_of (checked pack) → BwRead pack before b after
@@ -90,6 +91,6 @@ unfolding checked
 told_exactly pack bytes x why place =
     let count : Read → ℕ = λ r. count_of r.body.parts in
     let exactly = refused_exactly pack bytes why place in (
-      λ e. exactly.0 (refused_of count (reading pack) (told_apart (A.Refused why place) (checked pack) (sym e ∙ x))),
+      λ e. exactly.0 (refused_of count (reading pack) (told_apart (Err (refused_at why place)) (checked pack) (sym e ∙ x))),
       λ h. x ∙ ap told_of (sym (answered_refused count (exactly.1 h) refl)),
     )

@@ -9,8 +9,9 @@ use Rattle.runs.specs.Over.{over}
 use Rattle.runs.proofs.Cases.{absurd_eq}
 use Rattle.runs.proofs.Over.{take_over}
 use Rattle.refusals.specs.declared.Refusal.{Refusal}
-use Rattle.refusals.specs.declared.Answer.{Answer}
-use Rattle.refusals.specs.declared.Answer.TheVariants as A
+use Rattle.refusals.specs.Outcomes.{Answer}
+use Rattle.std.specs.Prelude.{Ok, Err}
+use Rattle.refusals.specs.Refusals.{refused_at}
 use Rattle.refusals.specs.Outcomes.{Outcome, fine, refused, answered, told}
 use Rattle.refusals.specs.Lent.{within, lent, Lends}
 use Rattle.refusals.proofs.Lent.{within_fine, fine_within, none_within}
@@ -18,34 +19,37 @@ use Rattle.refusals.proofs.Numbers as numbers
 use Rattle.refusals.proofs.Outcomes.{done_of_lem, refused_of}
 use Rattle.scrub_kept.specs.Scrubbed.{leaves}
 use Rattle.scrub_kept.proofs.Scrubbing.{refused_same}
+use Rattle.objects.specs.declared.Object.{Object}
+use Rattle.objects.specs.Calls.{Call}
+use Rattle.objects_apply.specs.Applied.{Applied}
+use Rattle.ballastwren.specs.Objects.{BwObjects}
 use Rattle.ballastwren.specs.Told.{told_of}
 use Rattle.ballastwren.specs.declared.Told.{Told}
 
 -- two answers that are told alike are the same
 same_told : (a b : Answer) → told_of a ≡ told_of b → told a ≡ told b
-same_told (A.Done m) (A.Done n) e = ap (λ (t : Told). record { number = t.number; value = t.value }) e
-same_told (A.Done m) (A.Refused why place) e = ap (λ (t : Told). record { number = t.number; value = t.value }) e
-same_told (A.Refused why place) (A.Done n) e = ap (λ (t : Told). record { number = t.number; value = t.value }) e
-same_told (A.Refused why place) (A.Refused other there) e = ap (λ (t : Told). record { number = t.number; value = t.value }) e
+same_told (Ok m) (Ok n) e = ap (λ (t : Told). record { number = t.number; value = t.value }) e
+same_told (Ok m) (Err r) e = ap (λ (t : Told). record { number = t.number; value = t.value }) e
+same_told (Err r) (Ok n) e = ap (λ (t : Told). record { number = t.number; value = t.value }) e
+same_told (Err r) (Err other) e = ap (λ (t : Told). record { number = t.number; value = t.value }) e
 
 pub told_apart : (a b : Answer) → told_of a ≡ told_of b → a ≡ b
 told_apart a b e = numbers.told_apart a b (same_told a b e)
 
 -- number 0 tells a count, any other a refusal
-pub done_told : (a : Answer) → (told_of a).number ≡ 0 → a ≡ A.Done (told_of a).value
-done_told (A.Done n) e = refl
-done_told (A.Refused why place) e =
-    let never = told_apart (A.Refused why place) (A.Done place) (ap (λ (n : ℕ). record { number = n; value = place }) e) in absurd_eq (cc)
+pub done_told : (a : Answer) → (told_of a).number ≡ 0 → a ≡ Ok (told_of a).value
+done_told (Ok n) e = refl
+done_told (Err r) e = let never = told_apart (Err r) (Ok r.place) (ap (λ (n : ℕ). record { number = n; value = r.place }) e) in absurd_eq (cc)
 
-pub refused_told : (a : Answer) → ((told_of a).number ≡ 0 → ⊥) → (why : Refusal) × (place : ℕ) × (a ≡ A.Refused why place)
-refused_told (A.Done n) h = absurd (h refl)
-refused_told (A.Refused why place) h = (why, place, refl)
+pub refused_told : (a : Answer) → ((told_of a).number ≡ 0 → ⊥) → (why : Refusal) × (place : ℕ) × (a ≡ Err (refused_at why place))
+refused_told (Ok n) h = absurd (h refl)
+refused_told (Err r) h = (r.why, r.place, refl)
 
 module _ {holds : List ℕ → Outcome (List ℕ) → List ℕ} {o : Outcome (List ℕ)} {before after : List ℕ} {t : Told} (x : Lends told_of holds o before t after) where
   -- the answer that was told
-  pub answer_done : t.number ≡ 0 → answered length o ≡ A.Done t.value
+  pub answer_done : t.number ≡ 0 → answered length o ≡ Ok t.value
   answer_done zero =
-      done_told (answered length o) (sym (ap (λ (u : Told). u.number) x.told) ∙ zero) ∙ ap A.Done (sym (ap (λ (u : Told). u.value) x.told))
+      done_told (answered length o) (sym (ap (λ (u : Told). u.number) x.told) ∙ zero) ∙ ap Ok (sym (ap (λ (u : Told). u.value) x.told))
 
   pub outcome_done : t.number ≡ 0 → (xs : List ℕ) × (o ≡ fine xs) × (t.value ≡ length xs)
   outcome_done zero = done_of_lem length o (sym (answer_done zero))
@@ -90,9 +94,13 @@ pub there_and_back : {o : Outcome (List ℕ)} (next : List ℕ → Outcome (List
     → ((xs : List ℕ) → o ≡ fine xs → next xs ≡ fine list)
     → Lends told_of lent (within (length before) o) before t after → t.number ≡ 0
     → Lends told_of lent (within (length run) (next (take t.value after))) run u end → length list ≤ length run
-    → (u ≡ told_of (A.Done (length list))) × (end ≡ over run 0 list)
+    → (u ≡ told_of (Ok (length list))) × (end ≡ over run 0 list)
 unfolding answered lent
 there_and_back next list {run = run} back x zero y room =
     let f = front x zero in
     let o = ap (λ (l : List ℕ). within (length run) (next l)) f.2 ∙ ap (within (length run)) (back f.0 f.1) ∙ fine_within (length run) list room in
     (y.told ∙ ap (λ (z : Outcome (List ℕ)). told_of (answered length z)) o, y.run ∙ ap (lent run) o)
+
+-- a call on a lent table whose answer is told
+pub table_told : {c : Call} {before after : List Object} {r : Answer} {t : Told} → Applied c before r after → t ≡ told_of r → BwObjects c before t after
+table_told x e = record { told = e ∙ ap told_of x.told; table = x.table }

@@ -4,5 +4,4 @@ pub mod Lookups
 pub mod Most
 pub mod One
 pub mod SheetChecks
-pub mod Back
 pub mod Tables

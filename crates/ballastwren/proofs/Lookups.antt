@@ -2,15 +2,18 @@
 use mathlib.Core.Path.{◌≡◌, refl, sym, ap, ap₂, subst, ◌∙◌}
 use mathlib.Core.List.{List, [], ◌∷◌}
 use mathlib.Core.Logic.{◌⊎◌, inl, inr}
-use Prim.Native.Nat.{ℕ, zero, suc}
-use lib.IntN.{pos}
+use Prim.Native.Nat.{ℕ}
+use lib.IntN.{ℤ, pos}
 use lib.ListN.{length}
 use borrow.Author.Tests.{le-leb}
+use Rattle.std.specs.Prelude.{Ok, Err}
 use Rattle.runs.specs.Digits.{Bytes}
 use Rattle.runs.proofs.Cases.{absurd_eq}
 use Rattle.refusals.specs.declared.Refusal.{Refusal}
+use Rattle.refusals.specs.declared.Refused.{Refused}
 use Rattle.refusals.specs.declared.Refusal.TheVariants as R
-use Rattle.refusals.specs.declared.Answer.TheVariants as A
+use Rattle.std.specs.Prelude.{Ok, Err}
+use Rattle.refusals.specs.Refusals.{refused_at}
 use Rattle.refusals.specs.Refusals.{number_of}
 use Rattle.refusals.specs.Outcomes.{Outcome, fine, refused, answered}
 use Rattle.refusals.proofs.Numbers.{numbers_apart}
@@ -19,15 +22,14 @@ use Rattle.pack.specs.Items.{count_of}
 use Rattle.pack.specs.Reading.{Read, reading, checked}
 use Rattle.pack.specs.Meaning.{stretch_in}
 use Rattle.pack.specs.declared.Payload.{Payload}
-use Rattle.lookup.specs.Lookup.{carried, first_of, accepted, looked_up, part_of}
+use Rattle.lookup.specs.Lookup.{carried, Looked, first_of, accepted, looked_up, pack_of, part_of}
 use Rattle.lookup.specs.Named.{Without, Says}
 use Rattle.lookup.specs.declared.Mark.{Mark}
 use Rattle.lookup.specs.declared.Mark.TheVariants as M
 use Rattle.lookup.specs.declared.Found.{Found}
-use Rattle.lookup.specs.declared.Found.TheVariants as F
-use Rattle.lookup.proofs.Looked.{looked_both}
-use Rattle.lookup.proofs.Means.{Means, strange_none, first_named, same_said, lookup_means}
-use Rattle.ballastwren.specs.Told.{told_of, mark_number, told_found_of}
+use Rattle.lookup.specs.declared.Unfound.TheVariants as U
+use Rattle.lookup.proofs.Means.{Means, MeansIn, strange_none, first_named, same_said, lookup_means}
+use Rattle.ballastwren.specs.Told.{told_of, mark_number, told_unfound, told_found_of}
 use Rattle.ballastwren.specs.Looked.{FirstTold, TotalTold, PartTold, absent_told}
 use Rattle.ballastwren.specs.declared.Told.{Told}
 use Rattle.ballastwren.specs.declared.ToldFound.{ToldFound}
@@ -35,38 +37,50 @@ use Rattle.ballastwren.proofs.Edge.{done_told}
 
 -- a refusal has no number 0
 never : {P : Type 0} (why : Refusal) (place : ℕ) → number_of why ≡ 0 → P
-never why place z = let done = done_told (A.Refused why place) z in absurd_eq (cc)
+never why place z = let done = done_told (Err (refused_at why place)) z in absurd_eq (cc)
 
 -- NO TWO ANSWERS ALIKE
 
-mark_of : ℕ → Mark
-mark_of zero = M.Neither
-mark_of (suc zero) = M.Main
-mark_of (suc (suc n)) = M.Backup
-
-mark_back : (m : Mark) → mark_of (mark_number m) ≡ m
-unfolding mark_of
-mark_back M.Neither = refl
-mark_back M.Main = refl
-mark_back M.Backup = refl
-
 marks_apart : (m n : Mark) → mark_number m ≡ mark_number n → m ≡ n
-marks_apart m n e = sym (mark_back m) ∙ ap mark_of e ∙ mark_back n
+marks_apart M.Main M.Main e = refl
+marks_apart M.Main M.Backup e = absurd_eq (cc)
+marks_apart M.Backup M.Main e = absurd_eq (cc)
+marks_apart M.Backup M.Backup e = refl
 
-pub found_apart : (a b : Found) → told_found_of a ≡ told_found_of b → a ≡ b
-found_apart (F.At m v l x) (F.At n w k y) e =
-    let from = marks_apart m n (ap (λ (t : ToldFound). t.from) e) in
-    let start : v ≡ w = ap (λ (t : ToldFound). t.start) e in
-    let len : l ≡ k = ap (λ (t : ToldFound). t.value) e in
-    let total : x ≡ y = ap (λ (t : ToldFound). t.total) e in
-    cc
-found_apart (F.At m v l x) (F.Refused why p n) e = never why p (sym (ap (λ (t : ToldFound). t.number) e))
-found_apart (F.Refused why p n) (F.At m v l x) e = never why p (ap (λ (t : ToldFound). t.number) e)
-found_apart (F.Refused why p m) (F.Refused other q n) e =
-    let reason = numbers_apart why other (ap (λ (t : ToldFound). t.number) e) in
-    let place : p ≡ q = ap (λ (t : ToldFound). t.value) e in
-    let from = marks_apart m n (ap (λ (t : ToldFound). t.from) e) in
-    cc
+found_same : (f g : Found) → told_found_of (Ok f) ≡ told_found_of (Ok g) → f ≡ g
+found_same f g e =
+    ap₂ (λ (m : Mark) (v : ℕ). let x : Found = record { from = m; value = record { start = v; len = f.value.len }; total = f.total } in x)
+    (marks_apart f.from g.from (ap (λ (t : ToldFound). t.from) e)) (ap (λ (t : ToldFound). t.start) e)
+    ∙ ap₂ (λ (l : ℕ) (x : ℤ). let y : Found = record { from = g.from; value = record { start = g.value.start; len = l }; total = x } in y)
+    (ap (λ (t : ToldFound). t.value) e) (ap (λ (t : ToldFound). t.total) e)
+
+unfound_same : (r q : Refused) {m n : ℕ} → told_unfound r m ≡ told_unfound q n → r ≡ q
+unfound_same r q e = ap₂ refused_at (numbers_apart r.why q.why (ap (λ (t : ToldFound). t.number) e)) (ap (λ (t : ToldFound). t.value) e)
+
+-- a refusal is no value, and none of another pack
+unlike : {P : Type 0} (r q : Refused) (m n : ℕ) → (m ≡ n → ⊥) → told_unfound r m ≡ told_unfound q n → P
+unlike r q m n d e = absurd (d (ap (λ (t : ToldFound). t.from) e))
+
+value_or_not : {P : Type 0} (f : Found) (r : Refused) {m : ℕ} → told_found_of (Ok f) ≡ told_unfound r m → P
+value_or_not f r e = never r.why r.place (sym (ap (λ (t : ToldFound). t.number) e))
+
+pub found_apart : (a b : Looked) → told_found_of a ≡ told_found_of b → a ≡ b
+found_apart (Ok f) (Ok g) e = ap Ok (found_same f g e)
+found_apart (Ok f) (Err (U.Main r)) e = value_or_not f r e
+found_apart (Ok f) (Err (U.Backup r)) e = value_or_not f r e
+found_apart (Ok f) (Err U.Absent) e = value_or_not f (refused_at R.Absent 0) e
+found_apart (Err (U.Main r)) (Ok f) e = value_or_not f r (sym e)
+found_apart (Err (U.Backup r)) (Ok f) e = value_or_not f r (sym e)
+found_apart (Err U.Absent) (Ok f) e = value_or_not f (refused_at R.Absent 0) (sym e)
+found_apart (Err (U.Main r)) (Err (U.Main q)) e = ap (λ (x : Refused). Err (U.Main x)) (unfound_same r q e)
+found_apart (Err (U.Backup r)) (Err (U.Backup q)) e = ap (λ (x : Refused). Err (U.Backup x)) (unfound_same r q e)
+found_apart (Err U.Absent) (Err U.Absent) e = refl
+found_apart (Err (U.Main r)) (Err (U.Backup q)) e = unlike r q 1 2 (λ z. absurd_eq (cc)) e
+found_apart (Err (U.Backup r)) (Err (U.Main q)) e = unlike r q 2 1 (λ z. absurd_eq (cc)) e
+found_apart (Err (U.Main r)) (Err U.Absent) e = unlike r (refused_at R.Absent 0) 1 0 (λ z. absurd_eq (sym z)) e
+found_apart (Err (U.Backup r)) (Err U.Absent) e = unlike r (refused_at R.Absent 0) 2 0 (λ z. absurd_eq (cc)) e
+found_apart (Err U.Absent) (Err (U.Main q)) e = unlike (refused_at R.Absent 0) q 0 1 (λ z. absurd_eq (z)) e
+found_apart (Err U.Absent) (Err (U.Backup q)) e = unlike (refused_at R.Absent 0) q 0 2 (λ z. absurd_eq (cc)) e
 
 -- AS THE CHECKS TELL
 
@@ -79,8 +93,8 @@ InOrder c d a =
     × (c.number ≡ 0 → (d.number ≡ 0 → ⊥) → a ≡ record { number = d.number; value = d.value; from = 2; start = 0; total = pos 0 })
     × (c.number ≡ 0 → d.number ≡ 0 → (a.number ≡ 0) ⊎ (a ≡ absent_told))
 
-abbrev absent : Found
-absent = F.Refused R.Absent 0 M.Neither
+abbrev absent : Looked
+absent = Err U.Absent
 
 found_or_absent : (xs ys : List Payload)
     → let a = told_found_of (first_of M.Main xs (first_of M.Backup ys absent)) in (a.number ≡ 0) ⊎ (a ≡ absent_told)
@@ -90,7 +104,7 @@ found_or_absent [] [] = inr refl
 
 in_order : (l : List ℕ) (o p : Outcome Read)
     → InOrder (counted o) (counted p)
-    (told_found_of (accepted M.Main o (λ m. accepted M.Backup p (λ b. first_of M.Main (carried l m) (first_of M.Backup (carried l b) absent)))))
+    (told_found_of (accepted U.Main o (λ m. accepted U.Backup p (λ b. first_of M.Main (carried l m) (first_of M.Backup (carried l b) absent)))))
 unfolding answered
 in_order l (fine m) (fine b) = (λ h. absurd (h refl), λ z h. absurd (h refl), λ z y. found_or_absent (carried l m) (carried l b))
 in_order l (fine m) (refused why p) = (λ h. absurd (h refl), λ z h. refl, λ z y. never why p y)
@@ -109,59 +123,83 @@ module _ (main backup l : List ℕ) {a : ToldFound} (x : a ≡ told_found_of (lo
   read s p z =
       let d = done_of_lem (λ (r : Read). count_of r.body.parts) (reading s) (sym (done_told (checked s) (sym (ap (λ (t : Told). t.number) p) ∙ z))) in (d.0, d.1)
 
+  looked_both : {m b : Read} → reading main ≡ fine m → reading backup ≡ fine b → looked_up main backup l ≡ first_of M.Main (carried l m) (first_of M.Backup (carried l b) absent)
+  unfolding looked_up
+  looked_both e g =
+      ap₂ (λ (o p : Outcome Read). accepted U.Main o (λ m. accepted U.Backup p (λ b. first_of M.Main (carried l m) (first_of M.Backup (carried l b) absent)))) e g
+
   pub label_of_sixteen : {c d : Told} → c ≡ told_of (checked main) → d ≡ told_of (checked backup) → (length l ≡ 16 → ⊥) → c.number ≡ 0 → d.number ≡ 0 → a ≡ absent_told
   label_of_sixteen p q strange y z =
       let m = read main p y in
       let b = read backup q z in
-      x ∙ ap told_found_of (looked_both main backup l m.1 b.1
+      x ∙ ap told_found_of (looked_both m.1 b.1
       ∙ ap₂ (λ (us vs : List Payload). first_of M.Main us (first_of M.Backup vs absent)) (strange_none main l m.1 strange) (strange_none backup l b.1 strange))
 
 -- WHAT IS FOUND
 
-first_of_lem : {main backup l : List ℕ} (f : Found) → Means main backup l f → (told_found_of f).number ≡ 0 → FirstTold main backup l (told_found_of f)
-first_of_lem (F.At M.Main start len total) m z = inl (refl, m.1, m.2)
-first_of_lem (F.At M.Backup start len total) m z = inr (refl, m.1, m.2)
-first_of_lem (F.At M.Neither start len total) m z = absurd m
-first_of_lem (F.Refused why p mark) m z = never why p z
+module _ (main backup l : List ℕ) where
+  first_in : (m : Mark) (start len : ℕ) (total : ℤ) → MeansIn m main backup l start len total
+      → FirstTold main backup l (record { number = 0; value = len; from = mark_number m; start = start; total = total })
+  first_in M.Main start len total m = inl (refl, m.1, m.2)
+  first_in M.Backup start len total m = inr (refl, m.1, m.2)
 
-total_of : {main backup l : List ℕ} (f : Found) → Means main backup l f → (told_found_of f).number ≡ 0 → TotalTold main backup l (told_found_of f)
-total_of (F.At M.Main start len total) m z = inl (refl, m.3)
-total_of (F.At M.Backup start len total) m z = inr (refl, m.3)
-total_of (F.At M.Neither start len total) m z = absurd m
-total_of (F.Refused why p mark) m z = never why p z
+  total_in : (m : Mark) (start len : ℕ) (total : ℤ) → MeansIn m main backup l start len total
+      → TotalTold main backup l (record { number = 0; value = len; from = mark_number m; start = start; total = total })
+  total_in M.Main start len total m = inl (refl, m.3)
+  total_in M.Backup start len total m = inr (refl, m.3)
 
-part_of_lem : (main backup l : List ℕ) {v : List ℕ} (f : Found) → Means main backup l f → v ≡ part_of main backup f
-    → ((told_found_of f).number ≡ 0 → PartTold main backup v (told_found_of f)) × (((told_found_of f).number ≡ 0 → ⊥) → ((told_found_of f).start ≡ 0) × (v ≡ []))
-unfolding part_of stretch_in
-part_of_lem main backup l (F.At M.Main start len total) m q = (λ z. inl (refl, (m.0, q ∙ simp (le-leb _ _ m.0))), λ h. absurd (h refl))
-part_of_lem main backup l (F.At M.Backup start len total) m q = (λ z. inr (refl, (m.0, q ∙ simp (le-leb _ _ m.0))), λ h. absurd (h refl))
-part_of_lem main backup l (F.At M.Neither start len total) m q = absurd m
-part_of_lem main backup l (F.Refused why p mark) m q = (λ z. never why p z, λ h. (refl, q))
+  part_in : (m : Mark) (start len : ℕ) (total : ℤ) {v : List ℕ} → MeansIn m main backup l start len total → v ≡ stretch_in (pack_of m main backup) start len
+      → PartTold main backup v (record { number = 0; value = len; from = mark_number m; start = start; total = total })
+  unfolding stretch_in
+  part_in M.Main start len total m q = inl (refl, (m.0, q ∙ simp (le-leb _ _ m.0)))
+  part_in M.Backup start len total m q = inr (refl, (m.0, q ∙ simp (le-leb _ _ m.0)))
 
-absent_of : {main backup l : List ℕ} (f : Found) → Means main backup l f → told_found_of f ≡ absent_told → Says main (Without l) × Says backup (Without l)
-absent_of (F.At mark start len total) m e = let z : ◌≡◌ {A = ℕ} 0 20 = ap (λ (t : ToldFound). t.number) e in absurd_eq (cc)
-absent_of (F.Refused why p M.Main) m e = let z : ◌≡◌ {A = ℕ} 1 0 = ap (λ (t : ToldFound). t.from) e in absurd_eq (sym z)
-absent_of (F.Refused why p M.Backup) m e = let z : ◌≡◌ {A = ℕ} 2 0 = ap (λ (t : ToldFound). t.from) e in absurd_eq (cc)
-absent_of (F.Refused why p M.Neither) m e = (m.2, m.3)
+  -- a pack that has a value does not say that it has none
+  value_not_absent : {P : Type 0} (m : Mark) (start len : ℕ) (total : ℤ) → MeansIn m main backup l start len total → Says main (Without l) → Says backup (Without l) → P
+  value_not_absent M.Main start len total m u v = same_said m.1 u (λ xs f w. absurd (first_named f w))
+  value_not_absent M.Backup start len total m u v = same_said m.2 v (λ xs f w. absurd (first_named f w))
 
-of_absent : {main backup l : List ℕ} (f : Found) → Means main backup l f → Says main (Without l) → Says backup (Without l) → told_found_of f ≡ absent_told
-of_absent (F.At M.Main start len total) m u v = same_said m.1 u (λ xs f w. absurd (first_named f w))
-of_absent (F.At M.Backup start len total) m u v = same_said m.2 v (λ xs f w. absurd (first_named f w))
-of_absent (F.At M.Neither start len total) m u v = absurd m
-of_absent (F.Refused why p M.Main) m u v = absurd_eq (cc (m, u.accepted))
-of_absent (F.Refused why p M.Backup) m u v = absurd_eq (cc (m.1, v.accepted))
-of_absent (F.Refused why p M.Neither) m u v =
-    ap₂ (λ (n k : ℕ). record { number = n; value = k; from = 0; start = 0; total = pos 0 }) (ap number_of m.0) m.1
+  first_of_lem : (f : Looked) → Means main backup l f → (told_found_of f).number ≡ 0 → FirstTold main backup l (told_found_of f)
+  first_of_lem (Ok f) m z = first_in f.from f.value.start f.value.len f.total m
+  first_of_lem (Err (U.Main r)) m z = never r.why r.place z
+  first_of_lem (Err (U.Backup r)) m z = never r.why r.place z
+  first_of_lem (Err U.Absent) m z = never R.Absent 0 z
+
+  total_of : (f : Looked) → Means main backup l f → (told_found_of f).number ≡ 0 → TotalTold main backup l (told_found_of f)
+  total_of (Ok f) m z = total_in f.from f.value.start f.value.len f.total m
+  total_of (Err (U.Main r)) m z = never r.why r.place z
+  total_of (Err (U.Backup r)) m z = never r.why r.place z
+  total_of (Err U.Absent) m z = never R.Absent 0 z
+
+  part_of_lem : {v : List ℕ} (f : Looked) → Means main backup l f → v ≡ part_of main backup f
+      → ((told_found_of f).number ≡ 0 → PartTold main backup v (told_found_of f)) × (((told_found_of f).number ≡ 0 → ⊥) → ((told_found_of f).start ≡ 0) × (v ≡ []))
+  unfolding part_of
+  part_of_lem (Ok f) m q = (λ z. part_in f.from f.value.start f.value.len f.total m q, λ h. absurd (h refl))
+  part_of_lem (Err (U.Main r)) m q = (λ z. never r.why r.place z, λ h. (refl, q))
+  part_of_lem (Err (U.Backup r)) m q = (λ z. never r.why r.place z, λ h. (refl, q))
+  part_of_lem (Err U.Absent) m q = (λ z. never R.Absent 0 z, λ h. (refl, q))
+
+  absent_of : (f : Looked) → Means main backup l f → told_found_of f ≡ absent_told → Says main (Without l) × Says backup (Without l)
+  absent_of (Ok f) m e = value_or_not f (refused_at R.Absent 0) {m = 0} e
+  absent_of (Err (U.Main r)) m e = unlike r (refused_at R.Absent 0) 1 0 (λ z. absurd_eq (sym z)) e
+  absent_of (Err (U.Backup r)) m e = unlike r (refused_at R.Absent 0) 2 0 (λ z. absurd_eq (cc)) e
+  absent_of (Err U.Absent) m e = m
+
+  of_absent : (f : Looked) → Means main backup l f → Says main (Without l) → Says backup (Without l) → told_found_of f ≡ absent_told
+  of_absent (Ok f) m u v = value_not_absent f.from f.value.start f.value.len f.total m u v
+  of_absent (Err (U.Main r)) m u v = absurd_eq (cc (m, u.accepted))
+  of_absent (Err (U.Backup r)) m u v = absurd_eq (cc (m.1, v.accepted))
+  of_absent (Err U.Absent) m u v = refl
 
 module _ (main backup l : List ℕ) (b₁ : Bytes main) (b₂ : Bytes backup) {a : ToldFound} (x : a ≡ told_found_of (looked_up main backup l)) where
   means : Means main backup l (looked_up main backup l)
   means = lookup_means main backup l b₁ b₂
 
   pub lookup_first : a.number ≡ 0 → FirstTold main backup l a
-  lookup_first z = subst (FirstTold main backup l) (sym x) (first_of_lem (looked_up main backup l) means (sym (ap (λ (t : ToldFound). t.number) x) ∙ z))
+  lookup_first z = subst (FirstTold main backup l) (sym x) (first_of_lem main backup l (looked_up main backup l) means (sym (ap (λ (t : ToldFound). t.number) x) ∙ z))
 
   pub lookup_total : a.number ≡ 0 → TotalTold main backup l a
-  lookup_total z = subst (TotalTold main backup l) (sym x) (total_of (looked_up main backup l) means (sym (ap (λ (t : ToldFound). t.number) x) ∙ z))
+  lookup_total z = subst (TotalTold main backup l) (sym x) (total_of main backup l (looked_up main backup l) means (sym (ap (λ (t : ToldFound). t.number) x) ∙ z))
 
   pub lookup_stretch : {v : List ℕ} → v ≡ part_of main backup (looked_up main backup l)
       → (a.number ≡ 0 → PartTold main backup v a) × ((a.number ≡ 0 → ⊥) → (a.start ≡ 0) × (v ≡ []))
@@ -170,4 +208,4 @@ module _ (main backup l : List ℕ) (b₁ : Bytes main) (b₂ : Bytes backup) {a
       (part_of_lem main backup l (looked_up main backup l) means q)
 
   pub absent_exactly : (a ≡ absent_told → Says main (Without l) × Says backup (Without l)) × (Says main (Without l) → Says backup (Without l) → a ≡ absent_told)
-  absent_exactly = (λ e. absent_of (looked_up main backup l) means (sym x ∙ e), λ u v. x ∙ of_absent (looked_up main backup l) means u v)
+  absent_exactly = (λ e. absent_of main backup l (looked_up main backup l) means (sym x ∙ e), λ u v. x ∙ of_absent main backup l (looked_up main backup l) means u v)

@@ -2,23 +2,21 @@
 use mathlib.Core.Path.{◌≡◌, refl, sym, ap, subst, ◌∙◌}
 use mathlib.Core.Logic.{◌↔◌}
 use mathlib.Core.List.{List, [], ◌∷◌, map}
-use mathlib.Core.Bool.{true}
+use mathlib.Core.Bool.{true, false}
 use Prim.Native.Nat.{ℕ, suc, ◌+◌}
 use native.Mathlib.Omega.{arith}
 use lib.Dec.{eqb, ltb}
 use lib.ListN.{length}
-use borrow.Author.Tests.{eqb-true}
+use borrow.Author.Tests.{eqb-true, eqb-false}
+use Rattle.std.specs.Prelude.{Some, Ok, Err}
 use Rattle.runs.specs.Finding.{count}
 use Rattle.runs.proofs.Cases.{split, one, absurd_eq}
 use Rattle.refusals.specs.declared.Refusal.{Refusal}
 use Rattle.refusals.specs.declared.Refusal.TheVariants as R
-use Rattle.refusals.specs.declared.Answer.{Answer}
-use Rattle.refusals.specs.declared.Answer.TheVariants as A
-use Rattle.refusals.specs.Refusals.{number_of}
-use Rattle.refusals.specs.Outcomes.{Outcome, fine, refused}
+use Rattle.refusals.specs.Refusals.{number_of, refused_at}
+use Rattle.refusals.specs.Outcomes.{Answer, Outcome, fine, refused}
 use Rattle.refusals.proofs.Numbers.{numbers_apart}
 use Rattle.pmd.specs.declared.Kind.TheVariants as K
-use Rattle.pmd.specs.declared.Named.TheVariants as N
 use Rattle.pmd.specs.Reading.{read_as, fields_read}
 use Rattle.objects.specs.declared.Aod.{Aod}
 use Rattle.objects.specs.declared.Xyz.{Xyz}
@@ -42,9 +40,9 @@ module _ {c : Call} {t after : List Object} {a : Told} (x : BwObjects c t a afte
   objects_one y = (one x.told y.told, one x.table y.table)
 
   -- what C is told is what was answered
-  answer_done : a.number ≡ 0 → answer good c t ≡ A.Done a.value
+  answer_done : a.number ≡ 0 → answer good c t ≡ Ok a.value
   answer_done z =
-      done_told (answer good c t) (sym (ap (λ (u : Told). u.number) x.told) ∙ z) ∙ ap A.Done (sym (ap (λ (u : Told). u.value) x.told))
+      done_told (answer good c t) (sym (ap (λ (u : Told). u.number) x.told) ∙ z) ∙ ap Ok (sym (ap (λ (u : Told). u.value) x.told))
 
   -- a refusal changes no entry
   pub refused_keeps : (a.number ≡ 0 → ⊥) → after ≡ t
@@ -59,17 +57,17 @@ module _ {c : Call} {t after : List Object} {a : Told} (x : BwObjects c t a afte
 -- WHAT WAS APPLIED
 
 -- a value that PMD reading refuses is not applied
-unread_never : {P : Type 0} (t : List Object) (why : Refusal) (place n : ℕ) → answer good (unread why place) t ≡ A.Done n → P
+unread_never : {P : Type 0} (t : List Object) (why : Refusal) (place n : ℕ) → answer good (unread why place) t ≡ Ok n → P
 unfolding answer verdict
 unread_never t why place n h = split (judged good t) (λ j. absurd_eq (cc (rw j at h))) (λ j. absurd_eq (cc (rw j at h)))
 
 -- an AOD or an XYZ that was applied has numbers
-aod_read : (o : Outcome (List ℕ)) (t : List Object) (n : ℕ) → answer good (aod_call o) t ≡ A.Done n → (xs : List ℕ) × (o ≡ fine xs)
+aod_read : (o : Outcome (List ℕ)) (t : List Object) (n : ℕ) → answer good (aod_call o) t ≡ Ok n → (xs : List ℕ) × (o ≡ fine xs)
 unfolding aod_call
 aod_read (fine xs) t n h = (xs, refl)
 aod_read (refused why place) t n h = unread_never t why place n h
 
-xyz_read : (o : Outcome (List ℕ)) (t : List Object) (n : ℕ) → answer good (xyz_call o) t ≡ A.Done n → (xs : List ℕ) × (o ≡ fine xs)
+xyz_read : (o : Outcome (List ℕ)) (t : List Object) (n : ℕ) → answer good (xyz_call o) t ≡ Ok n → (xs : List ℕ) × (o ≡ fine xs)
 unfolding xyz_call
 xyz_read (fine xs) t n h = (xs, refl)
 xyz_read (refused why place) t n h = unread_never t why place n h
@@ -83,10 +81,10 @@ unfolding call_of xyz_call
 xyz_call_lem s xs e = ap xyz_call e
 
 -- how many records an accepted call counts
-done_number : {m n : ℕ} → A.Done m ≡ A.Done n → m ≡ n
+done_number : {m n : ℕ} → ◌≡◌ {A = Answer} (Ok m) (Ok n) → m ≡ n
 done_number e = ap (λ (a : Answer). (told_of a).value) e
 
-movable_count : (has : ℕ → Object) (k : ℕ) (ms : List Xyz) (n : ℕ) → movable has k ms ≡ A.Done n → n ≡ k + length ms
+movable_count : (has : ℕ → Object) (k : ℕ) (ms : List Xyz) (n : ℕ) → movable has k ms ≡ Ok n → n ≡ k + length ms
 unfolding movable
 movable_count has k [] n h = let e : k ≡ n = done_number h in omega arith
 movable_count has k (m ∷ ms) n h =
@@ -95,18 +93,18 @@ movable_count has k (m ∷ ms) n h =
     (λ d. let i = movable_count has (suc k) ms n (rw (f, d) at h) in omega arith))
 
 module _ (t : List Object) (n : ℕ) where
-  aod_count : (rs : List Aod) → answer good (aod rs) t ≡ A.Done n → n ≡ length rs
+  aod_count : (rs : List Aod) → answer good (aod rs) t ≡ Ok n → n ≡ length rs
   unfolding answer verdict
   aod_count rs h =
       split (judged good t)
       (λ j. split (ltb (count free t) (length (fresh (named t) rs))) (λ l. absurd_eq (cc (rw (j, l) at h))) (λ l. sym (done_number (rw (j, l) at h))))
       (λ j. absurd_eq (cc (rw j at h)))
 
-  xyz_count : (ms : List Xyz) → answer good (xyz ms) t ≡ A.Done n → n ≡ length ms
+  xyz_count : (ms : List Xyz) → answer good (xyz ms) t ≡ Ok n → n ≡ length ms
   unfolding answer verdict
   xyz_count ms h = split (judged good t) (λ j. let i = movable_count (named t) 0 ms n (rw j at h) in omega arith) (λ j. absurd_eq (cc (rw j at h)))
 
-  clear_count : (k : ℕ) → answer good (clear k) t ≡ A.Done n → n ≡ 1
+  clear_count : (k : ℕ) → answer good (clear k) t ≡ Ok n → n ≡ 1
   unfolding answer verdict
   clear_count k h =
       split (judged good t)
@@ -163,31 +161,34 @@ module _ {t after : List Object} {a : Told} where
 
 -- FULL
 
-movable_never : {P : Type 0} (has : ℕ → Object) (k : ℕ) (ms : List Xyz) (place : ℕ) → movable has k ms ≡ A.Refused R.Full place → P
-unfolding movable
-movable_never has k [] place h = absurd_eq (cc)
-movable_never has k (m ∷ ms) place h =
-    split (free (has m.element)) (λ f. absurd_eq (cc (rw f at h)))
-    (λ f. split (eqb (has m.element).dynamic 0) (λ d. absurd_eq (cc (rw (f, d) at h)))
-    (λ d. movable_never has (suc k) ms place (rw (f, d) at h)))
-
-refused_place : {why other : Refusal} {p q : ℕ} → A.Refused why p ≡ A.Refused other q → (number_of why ≡ number_of other) × (p ≡ q)
+refused_place : {why other : Refusal} {p q : ℕ} → ◌≡◌ {A = Answer} (Err (refused_at why p)) (Err (refused_at other q)) → (number_of why ≡ number_of other) × (p ≡ q)
 refused_place e = (ap (λ (a : Answer). (told_of a).number) e, ap (λ (a : Answer). (told_of a).value) e)
 
+not_full : {P : Type 0} (why : Refusal) {p q : ℕ} → eqb (number_of why) 24 ≡ false → ◌≡◌ {A = Answer} (Err (refused_at why p)) (Err (refused_at R.Full q)) → P
+not_full why d e = absurd (eqb-false (number_of why) 24 d (refused_place e).0)
+
+movable_never : {P : Type 0} (has : ℕ → Object) (k : ℕ) (ms : List Xyz) (place : ℕ) → movable has k ms ≡ Err (refused_at R.Full place) → P
+unfolding movable
+movable_never has k [] place h = let never : ◌≡◌ {A = Answer} (Ok k) (Err (refused_at R.Full place)) = h in absurd_eq (cc)
+movable_never has k (m ∷ ms) place h =
+    split (free (has m.element)) (λ f. not_full R.Unknown refl (rw f at h))
+    (λ f. split (eqb (has m.element).dynamic 0) (λ d. not_full R.Static refl (rw (f, d) at h))
+    (λ d. movable_never has (suc k) ms place (rw (f, d) at h)))
+
 -- only an AOD is FULL
-full_call : (c : Call) (t : List Object) (place : ℕ) → Sound good c → answer good c t ≡ A.Refused R.Full place → (rs : List Aod) × (c ≡ aod rs) × (place ≡ 0)
+full_call : (c : Call) (t : List Object) (place : ℕ) → Sound good c → answer good c t ≡ Err (refused_at R.Full place) → (rs : List Aod) × (c ≡ aod rs) × (place ≡ 0)
 unfolding answer verdict
 full_call (aod rs) t place s h =
     split (judged good t)
     (λ j. split (ltb (count free t) (length (fresh (named t) rs))) (λ l. (rs, refl, sym (refused_place (rw (j, l) at h)).1)) (λ l. absurd_eq (cc (rw (j, l) at h))))
-    (λ j. absurd_eq (cc (rw j at h)))
-full_call (xyz ms) t place s h = split (judged good t) (λ j. movable_never (named t) 0 ms place (rw j at h)) (λ j. absurd_eq (cc (rw j at h)))
+    (λ j. not_full R.Table refl (rw j at h))
+full_call (xyz ms) t place s h = split (judged good t) (λ j. movable_never (named t) 0 ms place (rw j at h)) (λ j. not_full R.Table refl (rw j at h))
 full_call (clear k) t place s h =
     split (judged good t)
-    (λ j. split (free (named t k)) (λ f. absurd_eq (cc (rw (j, f) at h))) (λ f. absurd_eq (cc (rw (j, f) at h))))
-    (λ j. absurd_eq (cc (rw j at h)))
+    (λ j. split (free (named t k)) (λ f. not_full R.Unknown refl (rw (j, f) at h)) (λ f. absurd_eq (cc (rw (j, f) at h))))
+    (λ j. not_full R.Table refl (rw j at h))
 full_call (unread why p) t place s h =
-    split (judged good t) (λ j. let e = (refused_place (rw j at h)).0 in absurd (omega (arith, s))) (λ j. absurd_eq (cc (rw j at h)))
+    split (judged good t) (λ j. let e = (refused_place (rw j at h)).0 in absurd (omega (arith, s))) (λ j. not_full R.Table refl (rw j at h))
 
 -- an AOD's records are those of a value of kind 3
 aod_outcome : (o : Outcome (List ℕ)) (rs : List Aod) → aod_call o ≡ aod rs → (xs : List ℕ) × (o ≡ fine xs) × (aod (aods_of xs) ≡ aod rs)
@@ -204,15 +205,15 @@ aod_kind : (kind : ℕ) (s : List ℕ) (rs : List Aod) → call_of kind s ≡ ao
 unfolding call_of
 aod_kind kind s rs e =
     split (eqb kind 3) (λ k. (eqb-true kind 3 k, rw k at e))
-    (λ k. split (eqb kind 4) (λ l. xyz_other (read_as (N.Known K.Xyz) s) rs (rw (k, l) at e)) (λ l. absurd_eq (cc (rw (k, l) at e))))
+    (λ k. split (eqb kind 4) (λ l. xyz_other (read_as (Some K.Xyz) s) rs (rw (k, l) at e)) (λ l. absurd_eq (cc (rw (k, l) at e))))
 
 -- a refusal that is told by its number
-refusal_told : (a : Answer) (why : Refusal) → (told_of a).number ≡ number_of why → a ≡ A.Refused why (told_of a).value
-refusal_told (A.Done n) why e = let never = done_told (A.Refused why 0) (sym e) in absurd_eq (cc)
-refusal_told (A.Refused w place) why e = ap (λ (r : Refusal). A.Refused r place) (numbers_apart w why e)
+refusal_told : (a : Answer) (why : Refusal) → (told_of a).number ≡ number_of why → a ≡ Err (refused_at why (told_of a).value)
+refusal_told (Ok n) why e = let never = done_told (Err (refused_at why 0)) (sym e) in absurd_eq (cc)
+refusal_told (Err w) why e = ap (λ (r : Refusal). Err (refused_at r w.place)) (numbers_apart w.why why e)
 
 module _ {t after : List Object} {a : Told} (kind : ℕ) (s : List ℕ) (x : BwApply kind s t a after) where
-  overfull : (xs : List ℕ) → kind ≡ 3 → fields_read 3 s ≡ fine xs → answer good (aod (aods_of xs)) t ≡ A.Refused R.Full 0 → Overfull kind s t
+  overfull : (xs : List ℕ) → kind ≡ 3 → fields_read 3 s ≡ fine xs → answer good (aod (aods_of xs)) t ≡ Err (refused_at R.Full 0) → Overfull kind s t
   overfull xs k e h =
       let b = (laws.full_exactly good (aods_of xs) t (aod_small s xs e)).0 h in
       record { aod = k; numbers = xs; read = e; taken = b.0; over = b.1 }
@@ -223,7 +224,7 @@ module _ {t after : List Object} {a : Told} (kind : ℕ) (s : List ℕ) (x : BwA
       let f = full_call (call_of kind s) t (told_of (answer good (call_of kind s) t)).value (value_sound kind s) r in
       let k = aod_kind kind s f.0 f.1 in
       let o = aod_outcome (fields_read 3 s) f.0 k.1 in
-      overfull o.0 k.0 o.1 (ap (λ (c : Call). answer good c t) (o.2 ∙ sym f.1) ∙ r ∙ ap (A.Refused R.Full) f.2)
+      overfull o.0 k.0 o.1 (ap (λ (c : Call). answer good c t) (o.2 ∙ sym f.1) ∙ r ∙ ap (λ (p : ℕ). Err (refused_at R.Full p)) f.2)
 
   told_full : Overfull kind s t → a.number ≡ 24
   told_full v =

@@ -2,19 +2,22 @@
 use mathlib.Core.Path.{◌≡◌, refl, sym, ap, ap₂, ◌∙◌, subst}
 use mathlib.Core.List.{List, [], ◌∷◌, ◌++◌, map}
 use Prim.Native.Nat.{ℕ, zero, suc, ◌+◌, ◌-◌, ◌*◌, ◌/◌, ◌%◌, ◌^◌, ◌<◌, ◌≤◌}
+use native.Mathlib.Nat.{pow-zero, pow-suc, mul_comm, div-one, div-div-eq-div-mul}
 use native.Mathlib.Numerals.{add-one}
 use native.Mathlib.Omega.{arith}
 use lib.Dec.{ltb}
 use lib.ListN.{length, get_or, drop, set, length-map, drop_of_length-le}
 use lib.Seq.{drop-cons}
-use borrow.Author.Tests.{lt-ltb, le-ltb}
 use Rattle.runs.specs.Digits.{digits, number}
+use Rattle.runs.specs.Over.{over}
+use Rattle.runs.proofs.Over.{over_nil, over_before}
 use Rattle.runs.proofs.Cases.{split}
 use Rattle.runs.proofs.Digits.{length_digits, number_of}
 use Rattle.runs.proofs.Writing.{Writing, writing_as, writing_byte}
+use Rattle.std.specs.Prelude.{Option, None, Some, IfNone, IfSome, unwrap_or}
 use Rattle.numbers.specs.Big.{signed32}
 use Rattle.numbers.proofs.Signs.{signed32_low, signed32_high}
-use Rattle.numbers.proofs.Fewest.{fewest, fewest_most, fewest_holds, fewest_least}
+use Rattle.numbers.proofs.Fewest.{fewest, fewest_most, fewest_holds, fewest_least, fewest_is}
 use Rattle.figures.specs.Figures.{size_from, decimal, integer, hex_digit, hex}
 
 -- the text of the k low digits of n
@@ -24,38 +27,40 @@ figures k n = map (λ (d : ℕ). 48 + d) (digits 10 k n)
 pub length_figures : (k n : ℕ) → length (figures k n) ≡ k
 length_figures k n = length-map (digits 10 k n) (λ (d : ℕ). 48 + d) ∙ length_digits 10 k n
 
--- the first of the figures that are left, and none left; r is what follows them
-pub figures_first : (k n : ℕ) (r : List ℕ) → 0 < k → figures k n ++ r ≡ (48 + n / 10 ^ (k - 1) % 10) ∷ (figures (k - 1) n ++ r)
+-- a figure before those that stand there
+figures_more : (xs : List ℕ) (i k n : ℕ) → i + 1 + k ≤ length xs → set (over xs (i + 1) (figures k n)) i (48 + n / 10 ^ k % 10) ≡ over xs i (figures (k + 1) n)
 unfolding digits
-figures_first zero n r h = absurd (omega arith)
-figures_first (suc k) n r h =
-    let e : suc k - 1 ≡ k = omega arith in rw e refl
+figures_more xs i k n h =
+    over_before xs i (48 + n / 10 ^ k % 10) (figures k n) (omega (arith, length_figures k n))
+    ∙ ap (λ (m : ℕ). over xs i (figures m n)) (let e : suc k ≡ k + 1 = omega arith in e)
 
-pub figures_none : (k n : ℕ) (r : List ℕ) → k ≤ 0 → figures k n ++ r ≡ r
+tenth : (n k : ℕ) → n / 10 ^ k / 10 ≡ n / 10 ^ (k + 1)
+tenth n k = div-div-eq-div-mul n (10 ^ k) 10 ∙ ap (λ (m : ℕ). n / m) (sym (pow-suc 10 k) ∙ ap (λ (m : ℕ). 10 ^ m) (let e : suc k ≡ k + 1 = omega arith in e))
+
+-- what the loop that writes them keeps, from the last on: the figures from i to `next` stand in the buffer, and `left` is the number before them
+pub record Standing (xs us : List ℕ) (next i n left : ℕ) : Type 0 where
+  pub stands : us ≡ over xs i (figures (next - i) n)
+  pub rest : left ≡ n / 10 ^ (next - i)
+
+pub standing_none : (xs : List ℕ) (next n : ℕ) → Standing xs xs next next n n
 unfolding digits
-figures_none zero n r h = refl
-figures_none (suc k) n r h = absurd (omega arith)
+standing_none xs next n =
+    let e : next - next ≡ 0 = omega arith in
+    record { stands = rw e (sym (over_nil xs next)); rest = rw (e, pow-zero 10) (sym (div-one n)) }
 
--- a turn of the loop that writes them
-pub figures_turn : {xs whole us : List ℕ} {a at : ℕ} (k n d : ℕ) (r : List ℕ) → 0 < k → d ≡ 48 + n / 10 ^ (k - 1) % 10
-    → Writing xs a whole us at (figures k n ++ r) → Writing xs a whole (set us at d) (at + 1) (figures (k - 1) n ++ r)
-figures_turn k n d r h e w =
-    writing_byte d (figures (k - 1) n ++ r) (writing_as (figures_first k n r h ∙ ap (λ (x : ℕ). x ∷ (figures (k - 1) n ++ r)) (sym e)) w)
-
--- how many digits: no more, one more, and where the search ends
-pub size_here : (k n : ℕ) → k < 20 → n < 10 ^ k → k ≡ size_from k (20 - k) n
-unfolding size_from
-size_here k n l h = let e : 20 - k ≡ suc (19 - k) = omega arith in rw e (simp (lt-ltb n (10 ^ k) h))
-
-pub size_more : (k n : ℕ) → k < 20 → 10 ^ k ≤ n → size_from k (20 - k) n ≡ size_from (k + 1) (20 - (k + 1)) n
-unfolding size_from
-size_more k n l h =
-    let e : 20 - k ≡ suc (20 - (k + 1)) = omega arith in
-    ap (λ (m : ℕ). size_from k m n) e ∙ simp (le-ltb n (10 ^ k) h, add-one)
-
-pub size_end : (k n : ℕ) → 20 ≤ k → k ≡ size_from k (20 - k) n
-unfolding size_from
-size_end k n l = let e : 20 - k ≡ 0 = omega arith in rw e refl
+pub standing_more : {xs us : List ℕ} {next i n left : ℕ} → 0 < i → i ≤ next → next ≤ length xs → Standing xs us next i n left
+    → Standing xs (set us (i - 1) (48 + left % 10)) next (i - 1) n (left / 10)
+standing_more {xs} {us} {next} {i} {n} {left} p h l s =
+    let j = i - 1 in
+    let k = next - i in
+    let e : i ≡ j + 1 = omega arith in
+    let f : k + 1 ≡ next - j = omega arith in
+    record {
+      stands =
+          ap₂ (λ (t : List ℕ) (d : ℕ). set t j (48 + d % 10)) (s.stands ∙ ap (λ (m : ℕ). over xs m (figures k n)) e) s.rest
+          ∙ figures_more xs j k n (omega arith) ∙ ap (λ (m : ℕ). over xs j (figures m n)) f;
+      rest = ap (λ (d : ℕ). d / 10) s.rest ∙ tenth n k ∙ ap (λ (m : ℕ). n / 10 ^ m) f;
+    }
 
 size_fewest : (k more n : ℕ) → size_from k more n ≡ fewest 10 k more n
 unfolding size_from fewest
@@ -64,6 +69,21 @@ size_fewest k (suc more) n = split (ltb n (10 ^ k)) (λ e. simp e) (λ e. simp e
 
 pub size_most : (n : ℕ) → size_from 1 19 n ≤ 20
 size_most n = rw size_fewest (fewest_most 10 1 19 n)
+
+-- a number between two powers of ten, and 0
+size_between : (n k : ℕ) → 10 ^ k ≤ n → n < 10 * 10 ^ k → k < 20 → k + 1 ≡ size_from 1 19 n
+size_between n k least most few =
+    (omega arith) ∙ fewest_is 10 1 19 n k (omega arith) (omega arith) (omega arith) least (rw (pow-suc 10 k, mul_comm (10 ^ k) 10) most) ∙ sym (size_fewest 1 19 n)
+
+size_zero : 1 ≡ size_from 1 19 0
+unfolding size_from
+size_zero = refl
+
+-- so one more than the logarithm, where there is one
+pub size_log : (n : ℕ) (log : Option ℕ) → IfNone log (n ≡ 0) → IfSome log (λ k. 10 ^ k ≤ n) → IfSome log (λ k. n < 10 * 10 ^ k) → IfSome log (λ k. k < 20)
+    → unwrap_or log 0 + 1 ≡ size_from 1 19 n
+size_log n None none least most few = size_zero ∙ ap (size_from 1 19) (sym none)
+size_log n (Some k) none least most few = size_between n k least most few
 
 pub size_low : (k n : ℕ) → 0 < k → n < 10 ^ k → size_from 1 19 n ≤ k
 size_low k n p h = rw size_fewest (fewest_least 10 1 19 n k (omega arith) p h)

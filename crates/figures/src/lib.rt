@@ -1,53 +1,18 @@
 #![tactic(auto)]
 // Words, numbers and bytes as text, in ASCII, each written into a lent buffer as a field of a line.
-ghost use Rattle.std.specs.Prelude.{◌≡◌, ◌+◌, ◌<◌, ◌^◌, length};
+ghost use Rattle.std.specs.Prelude.{◌≡◌, ◌+◌, ◌<◌, length};
 ghost use Rattle.numbers.specs.Big.{signed, signed32};
 ghost use Rattle.figures.specs.Figures.{size_from, decimal, integer, hex_digit, hex};
 ghost use Rattle.figures.specs.Fields.{FieldPut};
 
-// The powers of ten below 2^64.
-const POWERS: [u64; 20] = [
-    1,
-    10,
-    100,
-    1000,
-    10000,
-    100000,
-    1000000,
-    10000000,
-    100000000,
-    1000000000,
-    10000000000,
-    100000000000,
-    1000000000000,
-    10000000000000,
-    100000000000000,
-    1000000000000000,
-    10000000000000000,
-    100000000000000000,
-    1000000000000000000,
-    10000000000000000000,
-];
-
-fn power(k: usize) -> u64
-    requires { k < 20 }
-    ensures { result ≡ 10 ^ k }
-{
-    POWERS[k]
-}
+// From this number on the 32 bits of a number are those of one below 0.
+const NEGATIVE: u32 = 0x8000_0000;
 
 // How many decimal digits `n` takes.
 fn decimal_size(n: u64) -> usize
     ensures { result ≡ size_from 1 19 n }
 {
-    let mut size: usize = 1;
-    while size < 20 {
-        if n < power(size) {
-            return size;
-        }
-        size += 1;
-    }
-    size
+    n.checked_ilog10().unwrap_or(0) as usize + 1
 }
 
 // The capital hex digit of `d`.
@@ -74,12 +39,11 @@ pub fn put_decimal(out: &mut [u8], at: usize, n: u64, end: u8) -> usize
     requires { at + length (decimal n) < length out.old }
     ensures { FieldPut out.old at (decimal n) end result out.new }
 {
-    let mut next = at;
-    let mut left = decimal_size(n);
-    while left > 0 {
-        left -= 1;
-        out[next] = (48 + n / power(left) % 10) as u8;
-        next += 1;
+    let next = at + decimal_size(n);
+    let mut left = n;
+    for i in (at..next).rev() {
+        out[i] = b'0' + (left % 10) as u8;
+        left /= 10;
     }
     out[next] = end;
     next + 1
@@ -90,11 +54,11 @@ pub fn put_signed32(out: &mut [u8], at: usize, n: u32, end: u8) -> usize
     requires { at + length (integer (signed32 n)) < length out.old }
     ensures { FieldPut out.old at (integer (signed32 n)) end result out.new }
 {
-    if n < 0x8000_0000 {
-        return put_decimal(out, at, n as u64, end);
+    if n < NEGATIVE {
+        return put_decimal(out, at, u64::from(n), end);
     }
     out[at] = b'-';
-    put_decimal(out, at + 1, 0x1_0000_0000 - n as u64, end)
+    put_decimal(out, at + 1, 0x1_0000_0000 - u64::from(n), end)
 }
 
 // The 16 bits of `n` are one.
@@ -110,13 +74,10 @@ pub fn put_hex(out: &mut [u8], at: usize, bytes: &[u8], end: u8) -> usize
     ensures { FieldPut out.old at (hex bytes.now) end result out.new }
 {
     let mut next = at;
-    let mut i: usize = 0;
-    while i < bytes.len() {
-        let byte = bytes[i];
+    for byte in bytes {
         out[next] = hex_digit(byte / 16);
         out[next + 1] = hex_digit(byte % 16);
         next += 2;
-        i += 1;
     }
     out[next] = end;
     next + 1

@@ -2,5 +2,4 @@ pub mod Steps
 pub mod Seeking
 pub mod Tags
 pub mod Looked
-pub mod Parts
 pub mod Means

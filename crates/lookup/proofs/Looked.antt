@@ -2,119 +2,96 @@
 use mathlib.Core.Path.{◌≡◌, refl, sym, ap, ◌∙◌}
 use mathlib.Core.List.{List, [], ◌∷◌}
 use Prim.Native.Nat.{ℕ}
-use lib.IntN.{ℤ}
+use Rattle.std.specs.Prelude.{Option, Some, None, Result, Ok, Err}
+use Rattle.std.specs.Result.{MatchResult, IsErrAnd}
+use Rattle.std.proofs.lemmas.Result.{err_from_is_err_and}
 use Rattle.runs.proofs.Cases.{absurd_eq}
-use Rattle.refusals.specs.declared.Refusal.{Refusal}
-use Rattle.refusals.specs.declared.Refusal.TheVariants as R
-use Rattle.refusals.specs.declared.Answer.{Answer}
-use Rattle.refusals.specs.declared.Answer.TheVariants as A
-use Rattle.refusals.specs.Outcomes.{Outcome, fine, refused}
-use Rattle.refusals.proofs.Outcomes.{done_of_lem, refused_of}
-use Rattle.numbers.specs.Big.{signed32}
+use Rattle.refusals.specs.declared.Refused.{Refused}
+use Rattle.refusals.specs.Outcomes.{Outcome, fine, answered, Answer}
+use Rattle.refusals.proofs.Lent.{done_was, refused_was}
 use Rattle.pack.specs.Items.{count_of}
 use Rattle.pack.specs.Reading.{Read, reading, checked}
 use Rattle.pack.specs.declared.Payload.{Payload}
-use Rattle.lookup.specs.Lookup.{carried, first_of, accepted, looked_up}
-use Rattle.lookup.specs.Sought.{first_at, sought_in}
+use Rattle.lookup.specs.Lookup.{Looked, found_in, carried, first_of, accepted, looked_up}
+use Rattle.lookup.specs.Sought.{first_at, sought_read}
 use Rattle.lookup.specs.declared.Mark.{Mark}
 use Rattle.lookup.specs.declared.Mark.TheVariants as M
-use Rattle.lookup.specs.declared.Found.{Found}
-use Rattle.lookup.specs.declared.Found.TheVariants as F
-use Rattle.lookup.specs.declared.Sought.{Sought}
-use Rattle.lookup.specs.declared.Sought.TheVariants as S
+use Rattle.lookup.specs.declared.Spot.{Spot}
+use Rattle.lookup.specs.declared.Unfound.TheVariants as U
 
--- ONE PACK
+-- an error that is told by another: what it was told of
+module _ {A E D : Type 0} (tells : E → D) (r : Result A E) {q : Result A D} (m : MatchResult r (λ x. q ≡ Ok x) (λ e. IsErrAnd q (λ d. d ≡ tells e))) where
+  pub told_ok : {x : A} → q ≡ Ok x → r ≡ Ok x
+  told_ok {x} e = was r m
+    where
+      was : (r : Result A E) → MatchResult r (λ x. q ≡ Ok x) (λ e. IsErrAnd q (λ d. d ≡ tells e)) → r ≡ Ok x
+      was (Ok y) m = let is : y ≡ x = cc in ap Ok is
+      was (Err y) m = let p = err_from_is_err_and q m in let z = p.1 in absurd_eq (cc)
 
-pub sought_none : (s l : List ℕ) {why : Refusal} {p : ℕ} → reading s ≡ refused why p → S.Refused why p ≡ sought_in l (reading s)
-unfolding sought_in
-sought_none s l e = sym (ap (sought_in l) e)
+  pub told_err : {d : D} → q ≡ Err d → (x : E) × (r ≡ Err x) × (d ≡ tells x)
+  told_err {d} e = was r m
+    where
+      was : (r : Result A E) → MatchResult r (λ x. q ≡ Ok x) (λ e. IsErrAnd q (λ d. d ≡ tells e)) → (x : E) × (r ≡ Err x) × (d ≡ tells x)
+      was (Ok y) m = absurd_eq (cc)
+      was (Err y) m = let p = err_from_is_err_and q m in let z = p.1 in let is : p.0 ≡ d = cc in (y, refl, sym is ∙ p.2)
 
-not_refused : {P : Type 0} (xs : List Payload) {why : Refusal} {p : ℕ} → first_at xs ≡ S.Refused why p → P
-not_refused [] e = absurd_eq (cc)
-not_refused (x ∷ xs) e = absurd_eq (cc)
+first_some : (m : Mark) (xs : List Payload) (next : Looked) {x : Spot} → first_at xs ≡ Some x → first_of m xs next ≡ Ok (found_in m x.start x.len x.total)
+first_some m [] next e = absurd_eq (cc)
+first_some m (y ∷ ys) next e = ap (λ (z : Option Spot). told z) e
+  where
+    told : Option Spot → Looked
+    told (Some z) = Ok (found_in m z.start z.len z.total)
+    told None = next
 
-sought_refused : (l : List ℕ) (o : Outcome Read) {why : Refusal} {p : ℕ} → sought_in l o ≡ S.Refused why p → o ≡ refused why p
-unfolding sought_in
-sought_refused l (fine r) e = not_refused (carried l r) e
-sought_refused l (refused why p) e = cc
-
--- the pack was read, and its payloads of the label are these
-abbrev Reads : List ℕ → Outcome Read → Sought → Type 0
-Reads l o h = (r : Read) × (o ≡ fine r) × (first_at (carried l r) ≡ h)
-
-sought_at : (l : List ℕ) (o : Outcome Read) {a b n : ℕ} → sought_in l o ≡ S.At a b n → Reads l o (S.At a b n)
-unfolding sought_in
-sought_at l (fine r) e = (r, refl, e)
-sought_at l (refused why p) e = absurd_eq (cc)
-
-sought_absent : (l : List ℕ) (o : Outcome Read) → sought_in l o ≡ S.Absent → Reads l o S.Absent
-unfolding sought_in
-sought_absent l (fine r) e = (r, refl, e)
-sought_absent l (refused why p) e = absurd_eq (cc)
-
-first_at_lem : (m : Mark) (xs : List Payload) (next : Found) {a b n : ℕ} → first_at xs ≡ S.At a b n → first_of m xs next ≡ F.At m a b (signed32 n)
-first_at_lem m [] next e = absurd_eq (cc)
-first_at_lem m (x ∷ xs) next e = cc
-
-first_none : (m : Mark) (xs : List Payload) (next : Found) → first_at xs ≡ S.Absent → first_of m xs next ≡ next
+first_none : (m : Mark) (xs : List Payload) (next : Looked) → first_at xs ≡ None → first_of m xs next ≡ next
 first_none m [] next e = refl
 first_none m (x ∷ xs) next e = absurd_eq (cc)
 
--- TWO PACKS
-
-abbrev absent : Found
-absent = F.Refused R.Absent 0 M.Neither
+abbrev absent : Looked
+absent = Err U.Absent
 
 module _ (main backup l : List ℕ) where
   -- backup, where main was read as m
-  abbrev after : Read → Outcome Read → Found
-  after m o = accepted M.Backup o (λ b. first_of M.Main (carried l m) (first_of M.Backup (carried l b) absent))
+  abbrev after : Read → Outcome Read → Looked
+  after m o = accepted U.Backup o (λ b. first_of M.Main (carried l m) (first_of M.Backup (carried l b) absent))
 
-  looked_first : {o : Outcome Read} → reading main ≡ o → looked_up main backup l ≡ accepted M.Main o (λ m. after m (reading backup))
+  looked_first : {o : Outcome Read} → reading main ≡ o → looked_up main backup l ≡ accepted U.Main o (λ m. after m (reading backup))
   unfolding looked_up
-  looked_first e = ap (λ (o : Outcome Read). accepted M.Main o (λ m. after m (reading backup))) e
-
-  module _ {m : Read} (e : reading main ≡ fine m) where
-    pub looked_refused : {why : Refusal} {p : ℕ} → reading backup ≡ refused why p → looked_up main backup l ≡ F.Refused why p M.Backup
-    looked_refused g = looked_first e ∙ ap (after m) g
-
-    pub looked_both : {b : Read} → reading backup ≡ fine b → looked_up main backup l ≡ first_of M.Main (carried l m) (first_of M.Backup (carried l b) absent)
-    looked_both g = looked_first e ∙ ap (after m) g
+  looked_first e = ap (λ (o : Outcome Read). accepted U.Main o (λ m. after m (reading backup))) e
 
   -- by what was sought in main
-  module _ {first : Sought} (f : first ≡ sought_in l (reading main)) where
-    pub main_refused_lem : {why : Refusal} {p : ℕ} → first ≡ S.Refused why p → F.Refused why p M.Main ≡ looked_up main backup l
-    main_refused_lem e = sym (looked_first (sought_refused l (reading main) (sym f ∙ e)))
+  module _ {first : Result (Option Spot) Refused} (f : first ≡ answered (sought_read l) (reading main)) where
+    pub main_refused : {x : Refused} → first ≡ Err x → looked_up main backup l ≡ Err (U.Main x)
+    main_refused e = looked_first (refused_was (sought_read l) f e)
+
+    module _ {h : Option Spot} (e : first ≡ Ok h) where
+      main_read : (m : Read) × (reading main ≡ fine m) × (first_at (carried l m) ≡ h)
+      main_read = done_was (sought_read l) f e
+
+      -- then backup is read, or refused
+      next : {o : Outcome Read} → reading backup ≡ o → looked_up main backup l ≡ after main_read.0 o
+      next g = looked_first main_read.1 ∙ ap (after main_read.0) g
 
     -- main has it
-    module _ {a b n : ℕ} (e : first ≡ S.At a b n) {other : Answer} (k : other ≡ checked backup) where
-      main_at : Reads l (reading main) (S.At a b n)
-      main_at = sought_at l (reading main) (sym f ∙ e)
-
-      pub other_refused : {why : Refusal} {p : ℕ} → other ≡ A.Refused why p → F.Refused why p M.Backup ≡ looked_up main backup l
+    module _ {x : Spot} (e : first ≡ Ok (Some x)) {other : Answer} (k : other ≡ checked backup) where
+      pub other_refused : {y : Refused} → other ≡ Err y → looked_up main backup l ≡ Err (U.Backup y)
       unfolding checked
-      other_refused d = sym (looked_refused main_at.1 (refused_of (λ (r : Read). count_of r.body.parts) (reading backup) (sym d ∙ k)))
+      other_refused d = next e (refused_was (λ (r : Read). count_of r.body.parts) k d)
 
-      pub in_main : {k : ℕ} {total : ℤ} → other ≡ A.Done k → total ≡ signed32 n → F.At M.Main a b total ≡ looked_up main backup l
+      pub in_main : {n : ℕ} → other ≡ Ok n → looked_up main backup l ≡ Ok (found_in M.Main x.start x.len x.total)
       unfolding checked
-      in_main d sum =
-          ap (F.At M.Main a b) sum
-          ∙ sym (looked_both main_at.1 (done_of_lem (λ (r : Read). count_of r.body.parts) (reading backup) (sym d ∙ k)).1
-          ∙ first_at_lem M.Main (carried l main_at.0) _ main_at.2)
+      in_main d = next e (done_was (λ (r : Read). count_of r.body.parts) k d).1 ∙ first_some M.Main (carried l (main_read e).0) _ (main_read e).2
 
     -- main does not have it
-    module _ (e : first ≡ S.Absent) {second : Sought} (g : second ≡ sought_in l (reading backup)) where
-      main_absent : Reads l (reading main) S.Absent
-      main_absent = sought_absent l (reading main) (sym f ∙ e)
+    module _ (e : first ≡ Ok None) {second : Result (Option Spot) Refused} (g : second ≡ answered (sought_read l) (reading backup)) where
+      pub backup_refused : {y : Refused} → second ≡ Err y → looked_up main backup l ≡ Err (U.Backup y)
+      backup_refused d = next e (refused_was (sought_read l) g d)
 
-      backup_next : {h : Sought} (r : Reads l (reading backup) h) → looked_up main backup l ≡ first_of M.Backup (carried l r.0) absent
-      backup_next r = looked_both main_absent.1 r.1 ∙ first_none M.Main (carried l main_absent.0) _ main_absent.2
+      backup_next : {h : Option Spot} (d : second ≡ Ok h) → looked_up main backup l ≡ first_of M.Backup (carried l (done_was (sought_read l) g d).0) absent
+      backup_next d = next e (done_was (sought_read l) g d).1 ∙ first_none M.Main (carried l (main_read e).0) _ (main_read e).2
 
-      pub backup_refused_lem : {why : Refusal} {p : ℕ} → second ≡ S.Refused why p → F.Refused why p M.Backup ≡ looked_up main backup l
-      backup_refused_lem d = sym (looked_refused main_absent.1 (sought_refused l (reading backup) (sym g ∙ d)))
+      pub in_backup : {x : Spot} → second ≡ Ok (Some x) → looked_up main backup l ≡ Ok (found_in M.Backup x.start x.len x.total)
+      in_backup d = let b = done_was (sought_read l) g d in backup_next d ∙ first_some M.Backup (carried l b.0) absent b.2
 
-      pub in_backup : {a b n : ℕ} {total : ℤ} → second ≡ S.At a b n → total ≡ signed32 n → F.At M.Backup a b total ≡ looked_up main backup l
-      in_backup {a} {b} d sum = let r = sought_at l (reading backup) (sym g ∙ d) in ap (F.At M.Backup a b) sum ∙ sym (backup_next r ∙ first_at_lem M.Backup (carried l r.0) absent r.2)
-
-      pub in_neither : second ≡ S.Absent → F.Refused R.Absent 0 M.Neither ≡ looked_up main backup l
-      in_neither d = let r = sought_absent l (reading backup) (sym g ∙ d) in sym (backup_next r ∙ first_none M.Backup (carried l r.0) absent r.2)
+      pub in_neither : second ≡ Ok None → looked_up main backup l ≡ absent
+      in_neither d = let b = done_was (sought_read l) g d in backup_next d ∙ first_none M.Backup (carried l b.0) absent b.2

@@ -8,12 +8,12 @@ use lib.Dec.{eqb}
 use lib.IntN.{ℤ, ◌+ℤ◌}
 use lib.ListN.{length, get_or, length-take, length-drop}
 use borrow.Author.Tests.{eqb-false, ne_eqb}
+use Rattle.std.specs.Prelude.{Ok, Err}
 use Rattle.runs.specs.Digits.{Bytes}
 use Rattle.runs.specs.Those.{those, Each}
 use Rattle.runs.proofs.Cases.{split, absurd_eq}
 use Rattle.runs.proofs.Same.{same_true, same_false}
 use Rattle.runs.proofs.Those.{each_map, each_append, each_right, each_on}
-use Rattle.refusals.specs.declared.Refusal.TheVariants as R
 use Rattle.refusals.specs.Outcomes.{Outcome, fine, refused}
 use Rattle.numbers.specs.Big.{signed, signed32}
 use Rattle.pack.specs.Said.{SaidName, label, number, SaidPayload, SaidItem, single, sync}
@@ -27,11 +27,11 @@ use Rattle.pack.specs.declared.Name.TheVariants.{Label, Number}
 use Rattle.pack.specs.declared.Payload.{Payload}
 use Rattle.pack_layout.proofs.Totals.{totals_exact}
 use Rattle.pack_layout.proofs.Bounds.{NameFits, PayloadLies, PartLies, LabelLies, label_at, reading_bounds}
-use Rattle.lookup.specs.Lookup.{payloads_of, is_label, carried, first_of, accepted, looked_up}
+use Rattle.lookup.specs.Lookup.{payloads_of, is_label, carried, Looked, first_of, accepted, looked_up}
 use Rattle.lookup.specs.Named.{payloads_in, Without, First, FirstTotal, Says, SaysTotals}
+use Rattle.lookup.specs.declared.Mark.{Mark}
 use Rattle.lookup.specs.declared.Mark.TheVariants as M
-use Rattle.lookup.specs.declared.Found.{Found}
-use Rattle.lookup.specs.declared.Found.TheVariants as F
+use Rattle.lookup.specs.declared.Unfound.TheVariants as U
 
 -- THE FIRST THAT PASSES A TEST
 
@@ -236,30 +236,32 @@ same_said {s = s} {Rule = Rule} x y both =
 
 -- TWO PACKS
 
--- a value, which lies in its pack: main's first, or backup's first where main has none; main's refusal; backup's, where main is accepted; or that
--- neither has the label
-abbrev pub Means : List ℕ → List ℕ → List ℕ → Found → Type 0
-Means main backup l (F.At M.Main start len total) =
+-- a value, which lies in its pack: main's first, or backup's first where main has none
+abbrev pub MeansIn : Mark → List ℕ → List ℕ → List ℕ → ℕ → ℕ → ℤ → Type 0
+MeansIn M.Main main backup l start len total =
     (start + len ≤ length main) × Says main (First l (stretch main start len)) × Says backup (λ xs. Unit) × SaysTotals main (FirstTotal l (stretch main start len) total)
-Means main backup l (F.At M.Backup start len total) =
+MeansIn M.Backup main backup l start len total =
     (start + len ≤ length backup) × Says main (Without l) × Says backup (First l (stretch backup start len)) × SaysTotals backup (FirstTotal l (stretch backup start len) total)
-Means main backup l (F.At M.Neither start len total) = ⊥
-Means main backup l (F.Refused why p M.Main) = reading main ≡ refused why p
-Means main backup l (F.Refused why p M.Backup) = Says main (λ xs. Unit) × (reading backup ≡ refused why p)
-Means main backup l (F.Refused why p M.Neither) = (why ≡ R.Absent) × (p ≡ 0) × Says main (Without l) × Says backup (Without l)
+
+-- that value; main's refusal; backup's, where main is accepted; or that neither has the label
+abbrev pub Means : List ℕ → List ℕ → List ℕ → Looked → Type 0
+Means main backup l (Ok f) = MeansIn f.from main backup l f.value.start f.value.len f.total
+Means main backup l (Err (U.Main x)) = reading main ≡ refused x.why x.place
+Means main backup l (Err (U.Backup x)) = Says main (λ xs. Unit) × (reading backup ≡ refused x.why x.place)
+Means main backup l (Err U.Absent) = Says main (Without l) × Says backup (Without l)
 
 module _ (main backup l : List ℕ) (b₁ : Bytes main) (b₂ : Bytes backup) where
-  abbrev absent : Found
-  absent = F.Refused R.Absent 0 M.Neither
+  abbrev absent : Looked
+  absent = Err U.Absent
 
   means_both : {m b : Read} → reading main ≡ fine m → reading backup ≡ fine b → (xs ys : List Payload) → carried l m ≡ xs → carried l b ≡ ys
       → Means main backup l (first_of M.Main xs (first_of M.Backup ys absent))
   means_both e g (x ∷ xs) ys c d = (carried_lies main l e b₁ c, carried_first main l e b₁ c, accepted_says backup l g, carried_total main l e b₁ c)
   means_both e g [] (y ∷ ys) c d = (carried_lies backup l g b₂ d, carried_none main l e b₁ c, carried_first backup l g b₂ d, carried_total backup l g b₂ d)
-  means_both e g [] [] c d = (refl, refl, carried_none main l e b₁ c, carried_none backup l g b₂ d)
+  means_both e g [] [] c d = (carried_none main l e b₁ c, carried_none backup l g b₂ d)
 
   means_of : (o p : Outcome Read) → reading main ≡ o → reading backup ≡ p
-      → Means main backup l (accepted M.Main o (λ m. accepted M.Backup p (λ b. first_of M.Main (carried l m) (first_of M.Backup (carried l b) absent))))
+      → Means main backup l (accepted U.Main o (λ m. accepted U.Backup p (λ b. first_of M.Main (carried l m) (first_of M.Backup (carried l b) absent))))
   means_of (fine m) (fine b) e g = means_both e g (carried l m) (carried l b) refl refl
   means_of (fine m) (refused why p) e g = (accepted_says main l e, g)
   means_of (refused why p) q e g = e

@@ -1,10 +1,11 @@
 -- Inner. What one pack has of a label, as the code seeks it: by the tag that the label is mapped to.
-use Rattle.std.specs.Prelude.{◌≡◌, List, [], ◌∷◌, Bool, cond, ℕ, ◌≤◌, eqb, length, take, drop}
+use Rattle.std.specs.Prelude.{◌≡◌, List, [], ◌∷◌, Bool, false, cond, Option, Some, None, Result, Ok, ℕ, ◌+◌, ◌≤◌, eqb, length, take, drop}
 use Rattle.runs.specs.Same.{same}
 use Rattle.runs.specs.Those.{those}
-use Rattle.refusals.specs.Outcomes.{Outcome, fine, refused}
+use Rattle.refusals.specs.declared.Refused.{Refused}
+use Rattle.refusals.specs.Outcomes.{answered}
+use Rattle.pack.specs.Fixed.{item_cap}
 use Rattle.pack.specs.Payloads.{name_of, Ground, inners_from}
-use Rattle.pack.specs.Inside.{InsideTold}
 use Rattle.pack.specs.Items.{Body}
 use Rattle.pack.specs.Reading.{Read}
 use Rattle.pack.specs.declared.Name.{Name}
@@ -12,56 +13,51 @@ use Rattle.pack.specs.declared.Payload.{Payload}
 use Rattle.lookup.specs.Lookup.{payloads_of, carried}
 use Rattle.lookup.specs.declared.Inside.{Inside}
 use Rattle.lookup.specs.declared.Spot.{Spot}
-use Rattle.lookup.specs.declared.Sought.{Sought}
-use Rattle.lookup.specs.declared.Sought.TheVariants as S
 
 -- where the first of some payloads has its value, and its total offset
-abbrev pub first_at : List Payload → Sought
-first_at [] = S.Absent
-first_at (x ∷ xs) = S.At x.value_start x.value_len x.total
+abbrev pub first_at : List Payload → Option Spot
+first_at [] = None
+first_at (x ∷ xs) = Some (record { start = x.value_start; len = x.value_len; total = x.total })
 
 -- and the first of those whose name passes a test
-abbrev pub first_in : (Name → Bool) → List Payload → Sought
+abbrev pub first_in : (Name → Bool) → List Payload → Option Spot
 first_in test xs = first_at (those (λ (x : Payload). test x.name) xs)
 
--- a spot as the code has it: 0 is where no value starts
-unfoldable pub sought_of : Spot → Sought
-sought_of x = cond (eqb x.start 0) S.Absent (S.At x.start x.len x.total)
-
--- what was found before, or else what comes next
-abbrev pub or_else : Sought → Sought → Sought
-or_else (S.At start len total) next = S.At start len total
-or_else S.Absent next = next
-or_else (S.Refused why place) next = S.Refused why place
+-- whether the tag t is the one that is sought
+abbrev pub is_wanted : Option ℕ → ℕ → Bool
+is_wanted None t = false
+is_wanted (Some tag) t = eqb tag t
 
 -- a payload of the tag t, if that is the one that is sought
-unfoldable pub of_tag : ℕ → ℕ → ℕ → ℕ → ℕ → Sought
-of_tag wanted t start len total = cond (eqb t wanted) (S.At start len total) S.Absent
+unfoldable pub of_tag : Option ℕ → ℕ → ℕ → ℕ → ℕ → Option Spot
+of_tag wanted t start len total = cond (is_wanted wanted t) (Some (record { start = start; len = len; total = total })) None
 
--- by these mapped tags the name of a tag passes the test exactly if the tag is the one that is sought. No payload has the tag of Config
-abbrev pub Tells : List ℕ → (Name → Bool) → ℕ → Type 0
-Tells tags test wanted = (t : ℕ) → (t ≡ 1 → ⊥) → test (name_of tags t) ≡ eqb t wanted
+-- by these mapped tags the name of a tag passes the test exactly if the tag is the one that is sought
+abbrev pub Tells : List ℕ → (Name → Bool) → Option ℕ → Type 0
+Tells tags test wanted = (t : ℕ) → test (name_of tags t) ≡ is_wanted wanted t
 
--- the tag that is mapped to the label l, by the tags of the mappings and where their labels stand in s; that of Config, where none is
-unfoldable pub tag_for : List ℕ → List ℕ → List ℕ → List ℕ → ℕ
-tag_for s l [] places = 1
-tag_for s l (t ∷ ts) [] = 1
-tag_for s l (t ∷ ts) (p ∷ ps) = cond (same (take 16 (drop p s)) l) t (tag_for s l ts ps)
+-- the tag that is mapped to the label l, if one is, by the tags of the mappings and where their labels stand in s
+unfoldable pub tag_for : List ℕ → List ℕ → List ℕ → List ℕ → Option ℕ
+tag_for s l [] places = None
+tag_for s l (t ∷ ts) [] = None
+tag_for s l (t ∷ ts) (p ∷ ps) = cond (same (take 16 (drop p s)) l) (Some t) (tag_for s l ts ps)
 
-unfoldable pub wanted_tag : List ℕ → List ℕ → List ℕ → List ℕ → ℕ
-wanted_tag s l tags places = cond (eqb (length l) 16) (tag_for s l tags places) 1
+unfoldable pub wanted_tag : List ℕ → List ℕ → List ℕ → List ℕ → Option ℕ
+wanted_tag s l tags places = cond (eqb (length l) 16) (tag_for s l tags places) None
 
--- the inside of a Sync: its count or its refusal, and what its first payload has that is sought
-pub record InsideSought (q : List ℕ) (grounds : Ground) (test : Name → Bool) (base used : ℕ) (r : Inside) : Type 0 where
-  pub told : InsideTold q grounds base used r.answer
-  pub first : (fuel : ℕ) → length q ≤ fuel → (xs : List Payload) → inners_from fuel q grounds base 0 used ≡ fine xs → sought_of r.first ≡ first_in test xs
+-- what the payloads of the inside of a Sync come to, where `used` items and payloads came before
+abbrev pub inside_of : (Name → Bool) → ℕ → List Payload → Inside
+inside_of test used xs = record { count = used + length xs; first = first_in test xs }
+
+-- the inside of a Sync, sought; fuel, if it is enough, does not matter
+pub record InsideSought (q : List ℕ) (grounds : Ground) (test : Name → Bool) (base used : ℕ) (r : Result Inside Refused) : Type 0 where
+  pub told : (k : ℕ) → length q ≤ k → r ≡ answered (inside_of test used) (inners_from k q grounds base 0 used)
+  pub few : (x : Inside) → r ≡ Ok x → x.count ≤ item_cap
 
 -- the items of a pack
-unfoldable pub sought_body : (Name → Bool) → Outcome Body → Sought
-sought_body test (fine b) = first_in test (payloads_of b.parts)
-sought_body test (refused why place) = S.Refused why place
+abbrev pub sought_body : (Name → Bool) → Body → Option Spot
+sought_body test b = first_in test (payloads_of b.parts)
 
--- one pack: its refusal, or where the first payload of the label has its value
-unfoldable pub sought_in : List ℕ → Outcome Read → Sought
-sought_in l (fine r) = first_at (carried l r)
-sought_in l (refused why place) = S.Refused why place
+-- one pack: where the first payload of the label has its value
+abbrev pub sought_read : List ℕ → Read → Option Spot
+sought_read l r = first_at (carried l r)

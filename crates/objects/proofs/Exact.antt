@@ -1,5 +1,5 @@
 -- When an AOD is refused as FULL, and what an XYZ is answered: its count, or the first record that is at fault.
-use mathlib.Core.Path.{◌≡◌, refl}
+use mathlib.Core.Path.{◌≡◌, refl, ap}
 use mathlib.Core.Logic.{◌↔◌}
 use mathlib.Core.List.{List, map}
 use mathlib.Core.Bool.{Bool, true, false}
@@ -8,14 +8,16 @@ use native.Mathlib.Omega.{arith}
 use lib.ListN.{length}
 use lib.Dec.{ltb}
 use borrow.Author.Tests.{ltb-true, ltb-false}
+use Rattle.std.specs.Prelude.{Ok, Err}
 use Rattle.runs.specs.Those.{Each}
 use Rattle.runs.specs.Finding.{count}
 use Rattle.runs.proofs.Cases.{split, never, absurd_eq}
 use Rattle.runs.proofs.Those.{each_on}
 use Rattle.runs.proofs.Tallies.{distinct_tally}
 use Rattle.refusals.specs.declared.Refusal.TheVariants as R
-use Rattle.refusals.specs.declared.Answer.{Answer}
-use Rattle.refusals.specs.declared.Answer.TheVariants as A
+use Rattle.refusals.specs.Outcomes.{Answer}
+use Rattle.refusals.specs.Refusals.{refused_at}
+use Rattle.refusals.specs.declared.Refused.{Refused}
 use Rattle.objects.specs.declared.Object.{Object}
 use Rattle.objects.specs.declared.Aod.{Aod}
 use Rattle.objects.specs.Entries.{free, named}
@@ -35,8 +37,8 @@ module _ (good : Object → Bool) (rs : List Aod) (t : List Object) where
   abbrev pub more : ℕ
   more = length (fresh (named t) rs)
 
-  by_cases : (P : Answer → Type 0) → (judged good t ≡ false → P (A.Refused R.Table 0))
-      → (judged good t ≡ true → count free t < more → P (A.Refused R.Full 0)) → (more ≤ count free t → P (A.Done (length rs)))
+  by_cases : (P : Answer → Type 0) → (judged good t ≡ false → P (Err (refused_at R.Table 0)))
+      → (judged good t ≡ true → count free t < more → P (Err (refused_at R.Full 0))) → (more ≤ count free t → P (Ok (length rs)))
       → P (answer good (aod rs) t)
   unfolding answer verdict
   by_cases P b d e =
@@ -45,14 +47,15 @@ module _ (good : Object → Bool) (rs : List Aod) (t : List Object) where
       (λ l. rw (j, l) (e (ltb-false (count free t) more l))))
       (λ j. rw j (b j))
 
-  pub fulls : (answer good (aod rs) t ≡ A.Refused R.Full 0) ↔ ((judged good t ≡ true) × (count free t < more))
+  pub fulls : (answer good (aod rs) t ≡ Err (refused_at R.Full 0)) ↔ ((judged good t ≡ true) × (count free t < more))
   fulls = (there, back)
     where
-      there : answer good (aod rs) t ≡ A.Refused R.Full 0 → (judged good t ≡ true) × (count free t < more)
+      there : answer good (aod rs) t ≡ Err (refused_at R.Full 0) → (judged good t ≡ true) × (count free t < more)
       there =
-          by_cases (λ (x : Answer). x ≡ A.Refused R.Full 0 → (judged good t ≡ true) × (count free t < more))
-          (λ j h. absurd_eq (cc)) (λ j l h. (j, l)) (λ l h. absurd_eq (cc))
+          by_cases (λ (x : Answer). x ≡ Err (refused_at R.Full 0) → (judged good t ≡ true) × (count free t < more))
+          (λ j h. let same : refused_at R.Table 0 ≡ refused_at R.Full 0 = cc in let why = ap (λ (x : Refused). x.why) same in absurd_eq (cc))
+          (λ j l h. (j, l)) (λ l h. absurd_eq (cc))
 
-      back : (judged good t ≡ true) × (count free t < more) → answer good (aod rs) t ≡ A.Refused R.Full 0
+      back : (judged good t ≡ true) × (count free t < more) → answer good (aod rs) t ≡ Err (refused_at R.Full 0)
       back h =
-          by_cases (λ (x : Answer). x ≡ A.Refused R.Full 0) (λ j. never h.0 j) (λ j l. refl) (λ l. absurd (omega (arith, h.1)))
+          by_cases (λ (x : Answer). x ≡ Err (refused_at R.Full 0)) (λ j. never h.0 j) (λ j l. refl) (λ l. absurd (omega (arith, h.1)))

@@ -6,12 +6,12 @@ use Prim.Native.Nat.{ℕ, suc, ◌+◌, ◌≤◌, ◌<◌}
 use native.Mathlib.Omega.{arith}
 use lib.ListN.{length}
 use lib.Dec.{eqb}
+use Rattle.std.specs.Prelude.{Ok}
 use Rattle.runs.specs.Those.{those, Each}
 use Rattle.runs.specs.Finding.{count, change, distinct}
 use Rattle.runs.proofs.Cases.{split, absurd_eq}
 use Rattle.runs.proofs.Those.{each_map}
 use Rattle.runs.proofs.Finding.{bit, those_twice}
-use Rattle.refusals.specs.declared.Answer.TheVariants as A
 use Rattle.objects.specs.declared.Object.{Object}
 use Rattle.objects.specs.declared.Aod.{Aod}
 use Rattle.objects.specs.declared.Xyz.{Xyz}
@@ -100,7 +100,7 @@ move_all_names n (m ∷ ms) t =
     ∙ edit_names m.element (moved m) (moved_keeps m m.element) t n
 
 -- what is not refused names known elements only
-pub movable_known : (t : List Object) (k : ℕ) (ms : List Xyz) {n : ℕ} → movable (named t) k ms ≡ A.Done n → Each (Known t) ms
+pub movable_known : (t : List Object) (k : ℕ) (ms : List Xyz) {n : ℕ} → movable (named t) k ms ≡ Ok n → Each (Known t) ms
 unfolding movable
 movable_known t k [] h = search
 movable_known t k (m ∷ ms) h =

@@ -7,14 +7,15 @@ use native.Mathlib.Omega.{arith}
 use lib.ListN.{length}
 use lib.Dec.{ltb}
 use borrow.Author.Tests.{ltb-true, ltb-false}
+use Rattle.std.specs.Prelude.{Ok, Err}
 use Rattle.runs.specs.Those.{Each}
 use Rattle.runs.specs.Finding.{count, change}
 use Rattle.runs.proofs.Cases.{split, absurd_eq}
 use Rattle.runs.proofs.Those.{each_map}
 use Rattle.runs.proofs.Finding.{count_change, change_none, change_length, change_each}
+use Rattle.refusals.specs.Refusals.{refused_at}
 use Rattle.refusals.specs.declared.Refusal.{Refusal}
-use Rattle.refusals.specs.declared.Answer.{Answer}
-use Rattle.refusals.specs.declared.Answer.TheVariants as A
+use Rattle.refusals.specs.Outcomes.{Answer}
 use Rattle.objects.specs.declared.Object.{Object}
 use Rattle.objects.specs.declared.Aod.{Aod}
 use Rattle.objects.specs.declared.Xyz.{Xyz}
@@ -28,9 +29,9 @@ use Rattle.objects.proofs.Well.{Well}
 
 -- the verdict on a call is a count and no refusal
 abbrev pub Accepted : List Object → Call → Type 0
-Accepted t c = (n : ℕ) × (verdict (named t) (count free t) c ≡ A.Done n)
+Accepted t c = (n : ℕ) × (verdict (named t) (count free t) c ≡ Ok n)
 
-not_done : {P : Type 0} {why : Refusal} {place n : ℕ} → A.Refused why place ≡ A.Done n → P
+not_done : {P : Type 0} {why : Refusal} {place n : ℕ} → Err (refused_at why place) ≡ Ok n → P
 not_done h = absurd_eq (cc)
 
 -- an accepted AOD has its slots, and an accepted XYZ its entries
@@ -139,7 +140,7 @@ pub record Passed (good : Object → Bool) (c : Call) (t : List Object) : Type 0
   pub accepted : Accepted t c
 
 module _ (good : Object → Bool) (c : Call) (t : List Object) where
-  pub passed : {n : ℕ} → answer good c t ≡ A.Done n → Passed good c t
+  pub passed : {n : ℕ} → answer good c t ≡ Ok n → Passed good c t
   unfolding answer
   passed {n} h =
       split (judged good t) (λ b. record { table = b; accepted = (n, rw b at h) }) (λ b. not_done (rw b at h))
@@ -150,8 +151,8 @@ module _ (good : Object → Bool) (c : Call) (t : List Object) where
   next_by P p k = go (answer good c t) refl
     where
       go : (a : Answer) → answer good c t ≡ a → P (kept a t (changed c t))
-      go (A.Done n) e = k (passed e)
-      go (A.Refused why place) e = p
+      go (Ok n) e = k (passed e)
+      go (Err r) e = p
 
   -- a call keeps a table well, refused or not
   pub next_well : Sound good c → Well good t → Well good (next good c t)

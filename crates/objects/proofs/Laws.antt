@@ -4,11 +4,12 @@ use mathlib.Core.Logic.{◌↔◌}
 use mathlib.Core.List.{List}
 use mathlib.Core.Bool.{Bool, true}
 use Prim.Native.Nat.{ℕ, ◌≤◌, ◌<◌}
+use Rattle.std.specs.Prelude.{Ok, Err}
 use Rattle.runs.specs.Those.{Each}
 use Rattle.runs.specs.Finding.{count}
+use Rattle.refusals.specs.Refusals.{refused_at}
 use Rattle.refusals.specs.declared.Refusal.{Refusal}
 use Rattle.refusals.specs.declared.Refusal.TheVariants as R
-use Rattle.refusals.specs.declared.Answer.TheVariants as A
 use Rattle.objects.specs.declared.Object.{Object}
 use Rattle.objects.specs.declared.Aod.{Aod}
 use Rattle.objects.specs.declared.Xyz.{Xyz}
@@ -23,11 +24,11 @@ use Rattle.objects.proofs.Exact.{fresh_newcomers, fulls}
 
 module _ (good : Object → Bool) where
   -- a refused call leaves the table as it is
-  pub refused_keeps : (c : Call) (t : List Object) (why : Refusal) (place : ℕ) → answer good c t ≡ A.Refused why place → next good c t ≡ t
+  pub refused_keeps : (c : Call) (t : List Object) (why : Refusal) (place : ℕ) → answer good c t ≡ Err (refused_at why place) → next good c t ≡ t
   unfolding next
   refused_keeps c t why place h = rw h
 
-  module _ (c : Call) (t : List Object) {n : ℕ} (h : answer good c t ≡ A.Done n) where
+  module _ (c : Call) (t : List Object) {n : ℕ} (h : answer good c t ≡ Ok n) where
     next_done : next good c t ≡ changed c t
     unfolding next
     next_done = rw h
@@ -36,19 +37,19 @@ module _ (good : Object → Bool) where
     single m = (judged_well good t (passed good c t h).table).single m
 
   -- an accepted AOD puts its k-th new element into the k-th free slot and renews each entry that it names as the last record that names it has it
-  pub aod_sets : (rs : List Aod) (t : List Object) (n : ℕ) → Sound good (aod rs) → answer good (aod rs) t ≡ A.Done n → next good (aod rs) t ≡ after_aod rs t
+  pub aod_sets : (rs : List Aod) (t : List Object) (n : ℕ) → Sound good (aod rs) → answer good (aod rs) t ≡ Ok n → next good (aod rs) t ≡ after_aod rs t
   unfolding changed
   aod_sets rs t n s h =
       next_done (aod rs) t h
       ∙ put_all_sets rs t (real good rs s) (aod_room t rs (passed good (aod rs) t h).accepted) (single (aod rs) t h)
 
   -- an accepted XYZ changes x, y and z of the entries that it names, as the last record that names one has them, and nothing else
-  pub xyz_moves : (ms : List Xyz) (t : List Object) (n : ℕ) → answer good (xyz ms) t ≡ A.Done n → next good (xyz ms) t ≡ after_xyz ms t
+  pub xyz_moves : (ms : List Xyz) (t : List Object) (n : ℕ) → answer good (xyz ms) t ≡ Ok n → next good (xyz ms) t ≡ after_xyz ms t
   unfolding changed
   xyz_moves ms t n h = next_done (xyz ms) t h ∙ move_all_moves ms t (single (xyz ms) t h)
 
   -- an accepted clearing blanks the entry of that element, and nothing else
-  pub clear_frees : (k : ℕ) (t : List Object) (n : ℕ) → answer good (clear k) t ≡ A.Done n → next good (clear k) t ≡ after_clear k t
+  pub clear_frees : (k : ℕ) (t : List Object) (n : ℕ) → answer good (clear k) t ≡ Ok n → next good (clear k) t ≡ after_clear k t
   unfolding changed
   clear_frees k t n h = next_done (clear k) t h ∙ clear_clears k t (single (clear k) t h k)
 
@@ -58,5 +59,5 @@ module _ (good : Object → Bool) where
 
   -- an AOD is told FULL exactly when its new elements, counted with no order, exceed the free slots
   pub full_exactly : (rs : List Aod) (t : List Object) → Each (λ (r : Aod). r.element < 4096) rs
-      → (answer good (aod rs) t ≡ A.Refused R.Full 0) ↔ ((judged good t ≡ true) × (count free t < newcomers (named t) rs))
+      → (answer good (aod rs) t ≡ Err (refused_at R.Full 0)) ↔ ((judged good t ≡ true) × (count free t < newcomers (named t) rs))
   full_exactly rs t b = rw (sym (fresh_newcomers (named t) rs b)) (fulls good rs t)

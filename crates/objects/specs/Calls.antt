@@ -1,13 +1,12 @@
 -- Trusted. The calls on the object table of request 2026-06: what each is answered, and the table after it. What is answered is defined over the entry
 -- that each element names and over how many slots are free, and over nothing else of the table.
-use Rattle.std.specs.Prelude.{◌≡◌, List, [], ◌∷◌, map, Bool, true, false, cond, ℕ, suc, ◌<◌, length, ltb, eqb}
+use Rattle.std.specs.Prelude.{◌≡◌, List, [], ◌∷◌, map, Bool, true, false, cond, ℕ, suc, ◌<◌, length, ltb, eqb, Ok, Err}
 use Rattle.runs.specs.Those.{those, Each}
 use Rattle.runs.specs.Finding.{count, change, distinct}
 use Rattle.refusals.specs.declared.Refusal.{Refusal}
 use Rattle.refusals.specs.declared.Refusal.TheVariants as R
-use Rattle.refusals.specs.declared.Answer.{Answer}
-use Rattle.refusals.specs.declared.Answer.TheVariants as A
-use Rattle.refusals.specs.Refusals.{number_of}
+use Rattle.refusals.specs.Outcomes.{Answer}
+use Rattle.refusals.specs.Refusals.{number_of, refused_at}
 use Rattle.objects.specs.declared.Object.{Object}
 use Rattle.objects.specs.declared.Aod.{Aod}
 use Rattle.objects.specs.declared.Xyz.{Xyz}
@@ -27,17 +26,17 @@ fresh has rs = those (λ (n : ℕ). free (has n)) (distinct (map (λ (r : Aod). 
 
 -- an XYZ's records from the k-th on: UNKNOWN for an element that no used entry has, STATIC for one whose entry is not dynamic; and their count
 unfoldable pub movable : (ℕ → Object) → ℕ → List Xyz → Answer
-movable has k [] = A.Done k
+movable has k [] = Ok k
 movable has k (m ∷ ms) =
-    cond (free (has m.element)) (A.Refused R.Unknown k)
-    (cond (eqb (has m.element).dynamic 0) (A.Refused R.Static k) (movable has (suc k) ms))
+    cond (free (has m.element)) (Err (refused_at R.Unknown k))
+    (cond (eqb (has m.element).dynamic 0) (Err (refused_at R.Static k)) (movable has (suc k) ms))
 
 -- the answer where the table has these entries and so many slots are free: an AOD is FULL exactly where its new elements exceed them
 unfoldable pub verdict : (ℕ → Object) → ℕ → Call → Answer
-verdict has room (aod rs) = cond (ltb room (length (fresh has rs))) (A.Refused R.Full 0) (A.Done (length rs))
+verdict has room (aod rs) = cond (ltb room (length (fresh has rs))) (Err (refused_at R.Full 0)) (Ok (length rs))
 verdict has room (xyz ms) = movable has 0 ms
-verdict has room (clear n) = cond (free (has n)) (A.Refused R.Unknown 0) (A.Done 1)
-verdict has room (unread why place) = A.Refused why place
+verdict has room (clear n) = cond (free (has n)) (Err (refused_at R.Unknown 0)) (Ok 1)
+verdict has room (unread why place) = Err (refused_at why place)
 
 -- a record takes its element's entry, or the lowest free slot
 unfoldable pub put : Aod → List Object → List Object
@@ -60,8 +59,8 @@ changed (unread why place) t = t
 
 -- a call changes the table entirely or not at all
 abbrev pub kept : Answer → List Object → List Object → List Object
-kept (A.Done n) before after = after
-kept (A.Refused why place) before after = before
+kept (Ok n) before after = after
+kept (Err r) before after = before
 
 -- a call is as PMD reading gives it: an AOD's element is not 0 and its fields are good, an XYZ's coordinates are, and a refusal is one of document 01's
 abbrev pub Sound : (Object → Bool) → Call → Type 0
@@ -73,7 +72,7 @@ Sound good (unread why place) = number_of why < 20
 module _ (good : Object → Bool) where
   -- TABLE first, and then by the entries and the room
   unfoldable pub answer : Call → List Object → Answer
-  answer c t = cond (judged good t) (verdict (named t) (count free t) c) (A.Refused R.Table 0)
+  answer c t = cond (judged good t) (verdict (named t) (count free t) c) (Err (refused_at R.Table 0))
 
   unfoldable pub next : Call → List Object → List Object
   next c t = kept (answer c t) t (changed c t)

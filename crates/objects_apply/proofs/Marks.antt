@@ -1,20 +1,23 @@
 -- The marks of a table: what they say of an element, and how they follow the table.
 use mathlib.Core.Path.{◌≡◌, refl, sym, ap, ◌∙◌}
 use mathlib.Core.List.{List, [], ◌∷◌, ◌++◌}
-use mathlib.Core.Bool.{true, false, cond}
-use Prim.Native.Nat.{ℕ, zero, suc, ◌+◌, ◌-◌, ◌<◌}
+use mathlib.Core.Bool.{Bool, true, false, not, cond}
+use Prim.Native.Nat.{ℕ, zero, suc, ◌+◌, ◌-◌, ◌<◌, ◌≤◌}
 use native.Mathlib.Omega.{arith}
 use lib.ListN.{length, get_or, set, replicate, length-replicate, length-set}
 use lib.Seq.{get_or-set_same, get_or-set_other}
 use lib.Dec.{eqb, ltb}
-use borrow.Author.Tests.{eqb-true, eqb-false, lt-ltb}
+use borrow.Author.Tests.{eqb-true, eqb-false, lt-ltb, le-ltb}
+use Rattle.std.specs.Prelude.{Option, Some, None}
+use Rattle.std.specs.Option.{SomeIff, is_some}
 use Rattle.runs.specs.Finding.{first, change, place}
-use Rattle.runs.proofs.Cases.{split}
+use Rattle.runs.proofs.Cases.{split, absurd_eq}
 use Rattle.runs.proofs.Filling.{place_in, first_place, change_place}
 use Rattle.objects.specs.declared.Object.{Object}
 use Rattle.objects.specs.Entries.{blank, free, names, named}
 use Rattle.objects.proofs.Keys.{names_key, named_none, named_some}
 use Rattle.objects_apply.specs.Marks.{mark_of, mark_in, Marks}
+use Rattle.objects_apply.specs.Slots.{slot_of}
 use Rattle.objects_apply.proofs.Places.{first_before, first_behind, place_before, place_behind}
 
 -- WHAT A MARK SAYS
@@ -54,6 +57,47 @@ unfolding named
 stands_change {t} {n} {at} s g =
     change_place (names n) g blank t ∙ ap (λ (i : ℕ). set t i (g (get_or t i blank))) (sym s.slot) ∙ ap (λ (e : Object). set t at (g e)) (sym s.entry)
 
+-- the slot of an element, and what it says of the table
+module _ (t : List Object) (n : ℕ) {m : ℕ} (is : m ≡ mark_of t n) where
+  pub slot_none : m ≡ 0 → None ≡ slot_of t n
+  unfolding slot_of
+  slot_none z = rw (unmarked t n is z)
+
+  pub slot_some : 0 < m → Some (m - 1) ≡ slot_of t n
+  unfolding slot_of
+  slot_some h = let st = marked t n is h in rw st.used (ap Some st.slot)
+
+-- the mark less 1, where there is one
+pub slot_by : (t : List Object) (n : ℕ) {m : ℕ} (r : Option ℕ) → m ≡ mark_of t n → SomeIff r (1 ≤ m) (m - 1) → r ≡ slot_of t n
+slot_by t n None is never = slot_none t n is (omega (arith, never))
+slot_by t n (Some x) is there = ap Some there.1 ∙ slot_some t n is there.0
+
+flipped : (b x : Bool) → x ≡ not b → b ≡ not x
+flipped true x e = sym (ap not e)
+flipped false x e = sym (ap not e)
+
+-- an element has no slot exactly where it has no entry
+pub slot_free : (t : List Object) (n : ℕ) {b : Bool} {r : Option ℕ} → r ≡ slot_of t n → is_some r ≡ not b → b ≡ free (named t n)
+unfolding slot_of
+slot_free t n {b} {r} e f =
+    flipped b (is_some r) f
+    ∙ split (free (named t n)) (λ d. let q : r ≡ None = rw d at e in rw (d, q)) (λ d. let q : r ≡ Some (place (names n) t) = rw d at e in rw (d, q))
+
+pub slot_stands : (t : List Object) (n : ℕ) {at : ℕ} → Some at ≡ slot_of t n → Stands t n at
+unfolding slot_of named
+slot_stands t n {at} e =
+    split (free (named t n)) (λ d. let q : Some at ≡ None = rw d at e in absurd_eq (cc))
+    (λ d. let q : Some at ≡ Some (place (names n) t) = rw d at e in
+    let s : at ≡ place (names n) t = cc in
+    let w = place_in (names n) t (named_some n t d) in
+    record { used = d; slot = s; within = omega arith; entry = first_place (names n) blank t ∙ ap (λ (i : ℕ). get_or t i blank) (sym s) })
+
+pub slot_absent : (t : List Object) (n : ℕ) → None ≡ slot_of t n → free (named t n) ≡ true
+unfolding slot_of
+slot_absent t n e =
+    split (free (named t n)) (λ d. d)
+    (λ d. let q : None ≡ Some (place (names n) t) = rw d at e in absurd_eq (cc))
+
 -- THE ARRAY
 
 -- where nothing is noted; k is a variable so that no list of 4096 numbers is computed
@@ -76,6 +120,15 @@ marks_none k {s} l e = record {
   each = λ n.
       unmarked_in s n (ap (λ (l : List ℕ). get_or l n 0) e ∙ nothing k n) ∙ sym (mark_none [] n (named_nothing n));
 }
+
+-- an array with the marks of a table has none for a number that is no element
+pub mark_far : {t : List Object} {s : List ℕ} (n : ℕ) → Marks t s → 4096 ≤ n → mark_of t n ≡ 0
+unfolding mark_in
+mark_far n a h = sym (a.each n) ∙ simp (le-ltb n 4096 h)
+
+pub mark_near : {t : List Object} {s : List ℕ} (n : ℕ) → Marks t s → n < 4096 → get_or s n 0 ≡ mark_of t n
+unfolding mark_in
+mark_near {s = s} n a h = (simp (lt-ltb n 4096 h) at (a.each n))
 
 -- with another mark for k
 mark_set : (s : List ℕ) (k m n : ℕ) → k < 4096 → length s ≡ 4096 → mark_in (set s k m) n ≡ cond (eqb n k) m (mark_in s n)

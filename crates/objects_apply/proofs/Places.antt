@@ -10,7 +10,7 @@ use borrow.Author.Tests.{ltb-true, ltb-false}
 use Rattle.runs.specs.Finding.{count, first, change, place}
 use Rattle.runs.proofs.Cases.{split}
 use Rattle.runs.proofs.Finding.{first_passes}
-use Rattle.runs.proofs.Filling.{place_in, first_place}
+use Rattle.runs.proofs.Filling.{place_in, first_place, place_here, place_on}
 
 module _ {A : Type 0} (p : A → Bool) where
   pub count_append : (xs ys : List A) → count p (xs ++ ys) ≡ count p xs + count p ys
@@ -36,6 +36,12 @@ module _ {A : Type 0} (p : A → Bool) where
   place_before [] ys h = absurd (omega arith)
   place_before (x ∷ xs) ys h = split (p x) (λ e. rw e) (λ e. rw e (ap suc (place_before xs ys (rw e at h))))
 
+  -- a list that grows has it no earlier
+  pub place_less : (xs ys : List A) → place p xs ≤ place p (xs ++ ys)
+  unfolding place
+  place_less [] ys = omega arith
+  place_less (x ∷ xs) ys = let i = place_less xs ys in split (p x) (λ e. rw e (omega arith)) (λ e. rw e (omega arith))
+
   pub place_behind : (xs ys : List A) → count p xs ≡ 0 → place p (xs ++ ys) ≡ length xs + place p ys
   unfolding place count
   place_behind [] ys h = omega arith
@@ -59,19 +65,26 @@ module _ {A : Type 0} (p : A → Bool) where
   pub place_passes : (d : A) (xs : List A) → 0 < count p xs → p (get_or xs (place p xs) d) ≡ true
   place_passes d xs h = rw (sym (first_place p d xs)) (first_passes p d xs h)
 
-  pub place_most : (xs : List A) → place p xs ≤ length xs
-  unfolding place
-  place_most [] = omega arith
-  place_most (x ∷ xs) = let i = place_most xs in split (p x) (λ e. rw e (omega arith)) (λ e. rw e (omega arith))
-
   -- a search may begin anywhere up to the place
-  pub place_from : (xs : List A) (i : ℕ) → i ≤ place p xs → i + place p (drop i xs) ≡ place p xs
+  place_from : (xs : List A) (i : ℕ) → i ≤ place p xs → i + place p (drop i xs) ≡ place p xs
   unfolding place
   place_from xs zero h = omega arith
   place_from [] (suc i) h = absurd (omega arith)
   place_from (x ∷ xs) (suc i) h =
       split (p x) (λ e. let k = rw e at h in absurd (omega arith))
       (λ e. let k = rw e at h in let j = place_from xs i (omega arith) in rw e (omega arith))
+
+  -- A SEARCH, which has come to i
+
+  module _ (d : A) (xs : List A) (i : ℕ) (before : i ≤ place p xs) where
+    pub sought_here : i < length xs → p (get_or xs i d) ≡ true → i ≡ place p xs
+    sought_here h e = let k = place_here p d xs i h e in omega (arith, place_from xs i before)
+
+    pub sought_on : i < length xs → p (get_or xs i d) ≡ false → i + 1 ≤ place p xs
+    sought_on h e = let k = place_on p d xs i h e in omega (arith, place_from xs i before)
+
+    pub sought_none : length xs ≤ i → count p xs ≡ 0
+    sought_none h = place_out xs (omega arith)
 
   -- A STORE
 

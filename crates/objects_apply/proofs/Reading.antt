@@ -5,23 +5,26 @@ use Prim.Native.Nat.{ℕ, zero, suc, ◌-◌, ◌≤◌}
 use native.Mathlib.Nat.{zero-add, sub-zero}
 use native.Mathlib.Omega.{arith}
 use lib.ListN.{length, take, drop}
-use borrow.Author.Tests.{eq-eqb, ne_eqb}
+use lib.Dec.{eqb}
+use borrow.Author.Tests.{eqb-true}
+use Rattle.std.specs.Prelude.{Option, Some, None, Ok, Err}
 use Rattle.runs.specs.Over.{over}
-use Rattle.runs.proofs.Cases.{absurd_eq}
+use Rattle.runs.proofs.Cases.{split, absurd_eq}
 use Rattle.runs.proofs.Over.{length_over, take_over}
-use Rattle.refusals.specs.Outcomes.{Outcome, fine, refused, and_then}
+use Rattle.refusals.specs.Outcomes.{Outcome, fine, refused, and_then, Answer}
 use Rattle.refusals.specs.Lent.{within, lent, Delivered}
 use Rattle.refusals.specs.declared.Refusal.{Refusal}
 use Rattle.refusals.specs.declared.Refusal.TheVariants as R
-use Rattle.refusals.specs.declared.Answer.{Answer}
-use Rattle.refusals.specs.declared.Answer.TheVariants as A
+use Rattle.refusals.specs.declared.Refused.{Refused}
 use Rattle.refusals.proofs.Lent.{within_fine, fine_within, done_was, refused_was}
+use Rattle.pmd.specs.declared.Kind.{Kind}
 use Rattle.pmd.specs.declared.Kind.TheVariants as K
-use Rattle.pmd.specs.declared.Named.TheVariants as N
 use Rattle.pmd.specs.Reading.{read_as}
+use Rattle.pmd.specs.Table.{kind_of}
+use Rattle.objects.specs.declared.Object.{Object}
 use Rattle.objects.specs.Calls.{Call, aod, xyz, unread, verdict, Sound}
 use Rattle.objects_pmd.specs.Values.{good, aods_of, aod_call, xyz_call, call_of}
-use Rattle.objects_apply.specs.Worked.{WorkedIn, moves_of}
+use Rattle.objects_apply.specs.Worked.{Worked, moves_of, IsWithin}
 
 take_nothing : (m : ℕ) → take {A = ℕ} m [] ≡ []
 take_nothing zero = refl
@@ -32,10 +35,6 @@ take_behind zero l h = absurd (omega arith)
 take_behind (suc m) [] h = take_nothing (suc m - 1)
 take_behind (suc m) (x ∷ l) h = let e : suc m - 1 ≡ m = omega arith in rw e
 
--- no outcome is a list that is longer
-abbrev pub Few : ℕ → Outcome (List ℕ) → Type 0
-Few most o = (xs : List ℕ) → o ≡ fine xs → length xs ≤ most
-
 module _ (o : Outcome (List ℕ)) {before after : List ℕ} {r : Answer} (d : Delivered (within (length before) o) before r after) where
   -- so many numbers
   pub record Got (m : ℕ) : Type 0 where
@@ -45,7 +44,7 @@ module _ (o : Outcome (List ℕ)) {before after : List ℕ} {r : Answer} (d : De
     pub fits : m ≤ length after
     pub front : take m after ≡ numbers
 
-  pub got : {m : ℕ} → r ≡ A.Done m → Got m
+  pub got : {m : ℕ} → r ≡ Ok m → Got m
   unfolding lent
   got {m} e =
       let x = done_was length d.told e in
@@ -71,36 +70,36 @@ module _ (o : Outcome (List ℕ)) {before after : List ℕ} {r : Answer} (d : De
     rest_read h = take_behind m after h ∙ ap (drop 1) g.front
 
 -- a refusal of an outcome that has room is its own
-own_refusal : (room : ℕ) (o : Outcome (List ℕ)) {why : Refusal} {place : ℕ} → Few room o → within room o ≡ refused why place → o ≡ refused why place
+own_refusal : (room : ℕ) (o : Outcome (List ℕ)) {why : Refusal} {place : ℕ} → IsWithin room o → within room o ≡ refused why place → o ≡ refused why place
 unfolding and_then
 own_refusal room (fine xs) f e = let z = sym (fine_within room xs (f xs refl)) ∙ e in absurd_eq (cc)
 own_refusal room (refused w p) f e = e
 
 pub refusal_was : (o : Outcome (List ℕ)) {before after : List ℕ} {r : Answer} (d : Delivered (within (length before) o) before r after)
-    {why : Refusal} {place : ℕ} → Few (length before) o → r ≡ A.Refused why place → o ≡ refused why place
+    {e : Refused} → IsWithin (length before) o → r ≡ Err e → o ≡ refused e.why e.place
 refusal_was o {before} d f e = own_refusal (length before) o f (refused_was length d.told e)
 
--- and the call's, on the array as it was
-module _ {n : ℕ} {s : List ℕ} {r : Answer} {why : Refusal} {place : ℕ} (e : r ≡ A.Refused why place) where
-  worked_unread : {c : Call} → c ≡ unread why place → WorkedIn c n s r s
+-- and the call's, on the table as it was
+module _ {t : List Object} {r : Answer} {e : Refused} (is : r ≡ Err e) where
+  pub worked_unread : {c : Call} → c ≡ unread e.why e.place → Worked c t r t
   unfolding verdict
-  worked_unread q = rw q (record { worked = record { told = e; table = rw e }; behind = refl })
+  worked_unread q = rw q (record { told = is; table = rw is })
 
-  pub aod_unread : {o : Outcome (List ℕ)} → o ≡ refused why place → WorkedIn (aod_call o) n s r s
+  pub aod_unread : {o : Outcome (List ℕ)} → o ≡ refused e.why e.place → Worked (aod_call o) t r t
   unfolding aod_call
   aod_unread q = worked_unread (ap aod_call q)
 
-  pub xyz_unread : {o : Outcome (List ℕ)} → o ≡ refused why place → WorkedIn (xyz_call o) n s r s
+  pub xyz_unread : {o : Outcome (List ℕ)} → o ≡ refused e.why e.place → Worked (xyz_call o) t r t
   unfolding xyz_call
   xyz_unread q = worked_unread (ap xyz_call q)
 
 -- a value that is fine is the call of its records
-module _ {n : ℕ} {s after : List ℕ} {r : Answer} {o : Outcome (List ℕ)} {xs ys : List ℕ} (e : o ≡ fine xs) where
-  pub aod_read : ys ≡ xs → WorkedIn (aod (aods_of ys)) n s r after → WorkedIn (aod_call o) n s r after
+module _ {t after : List Object} {r : Answer} {o : Outcome (List ℕ)} {xs ys : List ℕ} (e : o ≡ fine xs) where
+  pub aod_read : ys ≡ xs → Worked (aod (aods_of ys)) t r after → Worked (aod_call o) t r after
   unfolding aod_call
   aod_read q w = rw e (rw q at w)
 
-  pub xyz_read : ys ≡ drop 1 xs → WorkedIn (xyz (moves_of ys)) n s r after → WorkedIn (xyz_call o) n s r after
+  pub xyz_read : ys ≡ drop 1 xs → Worked (xyz (moves_of ys)) t r after → Worked (xyz_call o) t r after
   unfolding xyz_call
   xyz_read q w = rw e (rw q at w)
 
@@ -110,16 +109,38 @@ sound_part s e = rw e s
 
 -- BY THE KIND
 
-module _ {kind : ℕ} (v : List ℕ) {n : ℕ} {s : List ℕ} {r : Answer} where
-  pub kind_aod : kind ≡ 3 → {after : List ℕ} → WorkedIn (aod_call (read_as (N.Known K.Aod) v)) n s r after → WorkedIn (call_of kind v) n s r after
-  unfolding call_of
-  kind_aod e w = rw (eq-eqb kind 3 e) w
+abbrev pub by_kind : Option Kind → List ℕ → Call
+by_kind (Some K.Apd) s = unread R.Kind 0
+by_kind (Some K.Apn) s = unread R.Kind 0
+by_kind (Some K.Aod) s = aod_call (read_as (Some K.Aod) s)
+by_kind (Some K.Xyz) s = xyz_call (read_as (Some K.Xyz) s)
+by_kind (Some K.Aen) s = unread R.Kind 0
+by_kind (Some K.Esn) s = unread R.Kind 0
+by_kind (Some K.Etd) s = unread R.Kind 0
+by_kind None s = unread R.Kind 0
 
-  module _ (d : kind ≡ 3 → ⊥) where
-    pub kind_xyz : kind ≡ 4 → {after : List ℕ} → WorkedIn (xyz_call (read_as (N.Known K.Xyz) v)) n s r after → WorkedIn (call_of kind v) n s r after
-    unfolding call_of
-    kind_xyz e w = rw (ne_eqb kind 3 d, eq-eqb kind 4 e) w
+pub call_by : (n : ℕ) (s : List ℕ) → call_of n s ≡ by_kind (kind_of n) s
+unfolding call_of
+call_by n s =
+    split (eqb n 3) (λ e. let q : n ≡ 3 = eqb-true n 3 e in rw q)
+    (λ e3. split (eqb n 4) (λ e. let q : n ≡ 4 = eqb-true n 4 e in rw q)
+    (λ e4. split (eqb n 1) (λ e. let q : n ≡ 1 = eqb-true n 1 e in rw q)
+    (λ e1. split (eqb n 2) (λ e. let q : n ≡ 2 = eqb-true n 2 e in rw q)
+    (λ e2. split (eqb n 5) (λ e. let q : n ≡ 5 = eqb-true n 5 e in rw q)
+    (λ e5. split (eqb n 6) (λ e. let q : n ≡ 6 = eqb-true n 6 e in rw q)
+    (λ e6. split (eqb n 7) (λ e. let q : n ≡ 7 = eqb-true n 7 e in rw q)
+    (λ e7. rw (e1, e2, e3, e4, e5, e6, e7))))))))
 
-    pub kind_none : (kind ≡ 4 → ⊥) → r ≡ A.Refused R.Kind 0 → WorkedIn (call_of kind v) n s r s
-    unfolding call_of
-    kind_none f e = rw (ne_eqb kind 3 d, ne_eqb kind 4 f) (worked_unread e refl)
+pub worked_by : (n : ℕ) (s : List ℕ) {o : Option Kind} {t after : List Object} {r : Answer} → kind_of n ≡ o → Worked (by_kind o s) t r after
+    → Worked (call_of n s) t r after
+worked_by n s k w = rw (call_by n s, k) w
+
+-- any kind but these two
+pub by_other : (k : Kind) (s : List ℕ) → (k ≡ K.Aod → ⊥) → (k ≡ K.Xyz → ⊥) → by_kind (Some k) s ≡ unread R.Kind 0
+by_other K.Apd s a x = refl
+by_other K.Apn s a x = refl
+by_other K.Aod s a x = absurd (a refl)
+by_other K.Xyz s a x = absurd (x refl)
+by_other K.Aen s a x = refl
+by_other K.Esn s a x = refl
+by_other K.Etd s a x = refl

@@ -1,60 +1,121 @@
--- The search for a free slot, and the slot that an element takes.
-use mathlib.Core.Path.{◌≡◌, sym, ap, ◌∙◌}
+-- The slot that an element takes.
+use mathlib.Core.Path.{◌≡◌, ap}
 use mathlib.Core.List.{List}
-use mathlib.Core.Bool.{true, false}
-use Prim.Native.Nat.{ℕ, suc, ◌+◌, ◌-◌, ◌*◌, ◌<◌, ◌≤◌}
+use mathlib.Core.Bool.{Bool, true, false, cond}
+use Prim.Native.Nat.{ℕ, ◌<◌}
 use native.Mathlib.Omega.{arith}
-use native.Mathlib.Numerals.{add-one}
-use lib.ListN.{length, get_or, drop}
-use lib.Dec.{eqb}
-use borrow.Author.Tests.{eq-eqb, ne_eqb}
-use Rattle.runs.specs.Finding.{place}
-use Rattle.runs.proofs.Filling.{place_here, place_on, place_done}
+use lib.ListN.{length}
+use lib.Dec.{ltb}
+use borrow.Author.Tests.{lt-ltb, ltb-true, ltb-false}
+use Rattle.std.specs.Prelude.{Some, None, Ok, Err}
+use Rattle.runs.specs.Finding.{count, place}
+use Rattle.runs.proofs.Cases.{split, absurd_eq}
+use Rattle.runs.proofs.Filling.{place_in}
+use Rattle.refusals.specs.Refusals.{refused_at}
+use Rattle.refusals.specs.declared.Refusal.TheVariants as R
+use Rattle.refusals.specs.declared.Refused.{Refused}
 use Rattle.objects.specs.declared.Object.{Object}
-use Rattle.objects.specs.Entries.{blank, free}
-use Rattle.objects_cells.specs.Lent.{held}
-use Rattle.objects_apply.specs.Marks.{seat_of}
-use Rattle.objects_cells.proofs.Cells.{held_length, held_at}
+use Rattle.objects.specs.declared.Aod.{Aod}
+use Rattle.objects.specs.Entries.{free, names, named}
+use Rattle.objects.proofs.Keys.{named_some}
+use Rattle.objects.proofs.Folds.{Slot}
+use Rattle.objects_apply.specs.Slots.{slot_of, free_slot, seat_of, has_seat, set_told}
+use Rattle.objects_apply.proofs.Marks.{slot_stands, slot_absent}
 
--- no slot from `from` up to i is free
-pub record Sought (n : ℕ) (s : List ℕ) (from i : ℕ) : Type 0 where
-  pub within : i ≤ n
-  pub same : i + place free (drop i (held n s)) ≡ from + place free (drop from (held n s))
+-- the entry of element n, or a free one where it has none
+abbrev pub goal_of : List Object → ℕ → Object → Bool
+goal_of t n = cond (free (named t n)) free (names n)
 
-module _ {n : ℕ} {s : List ℕ} {from i : ℕ} (k : Sought n s from i) where
-  module _ (h : i < n) where
-    in_held : i < length (held n s)
-    in_held = let l = held_length n s in omega arith
+-- THE FIRST FREE SLOT
 
-    element_is : (get_or (held n s) i blank).element ≡ get_or s (11 * i) 0
-    element_is = ap (λ (o : Object). o.element) (held_at n s i blank h)
+module _ (t : List Object) where
+  pub free_there : {at : ℕ} → at ≡ place free t → at < length t → 0 < count free t → Some at ≡ free_slot t
+  unfolding free_slot
+  free_there e h c = rw (lt-ltb 0 (count free t) c) (ap Some e)
 
-    pub sought_here : get_or s (11 * i) 0 ≡ 0 → i ≡ from + place free (drop from (held n s))
-    sought_here e =
-        let p = place_here free blank (held n s) i in_held (eq-eqb (get_or (held n s) i blank).element 0 (element_is ∙ e)) in
-        omega (arith, k.same)
+  pub free_none : count free t ≡ 0 → None ≡ free_slot t
+  unfolding free_slot
+  free_none z = rw z
 
-    pub sought_on : (get_or s (11 * i) 0 ≡ 0 → ⊥) → Sought n s from (i + 1)
-    sought_on e =
-        let p = place_on free blank (held n s) i in_held (ne_eqb (get_or (held n s) i blank).element 0 (λ z. e (sym element_is ∙ z))) in
-        let q : place free (drop i (held n s)) ≡ suc (place free (drop (i + 1) (held n s))) = rw (add-one i) p in
-        record { within = omega arith; same = omega (arith, k.same) }
+-- THE SLOT FOR AN ELEMENT
 
-  pub sought_none : n ≤ i → i ≡ from + place free (drop from (held n s))
-  sought_none h =
-      let l = held_length n s in
-      let p = place_done free (held n s) i (omega arith) in
-      omega (arith, k.same)
-
--- THE SLOT OF AN ELEMENT, BY ITS MARK
-
-module _ (t : List Object) (mark from : ℕ) where
-  pub seat_own : 0 < mark → record { at = mark - 1; from = from } ≡ seat_of t mark from
+module _ (t : List Object) (n : ℕ) where
+  pub seat_own : {at : ℕ} → Some at ≡ slot_of t n → Some at ≡ seat_of t n
   unfolding seat_of
-  seat_own h = let d : eqb mark 0 ≡ false = ne_eqb mark 0 (λ z. omega arith) in rw d
+  seat_own e = let st = slot_stands t n e in rw st.used (ap Some st.slot)
 
-  pub seat_free : {at : ℕ} → mark ≤ 0 → at ≡ from + place free (drop from t) → record { at = at; from = at } ≡ seat_of t mark from
+  pub seat_new : None ≡ slot_of t n → free_slot t ≡ seat_of t n
   unfolding seat_of
-  seat_free {at} h e =
-      let d : eqb mark 0 ≡ true = eq-eqb mark 0 (omega arith) in
-      rw d (ap (λ (i : ℕ). record { at = i; from = i }) e)
+  seat_new e = rw (slot_absent t n e)
+
+  pub record Seated (at : ℕ) : Type 0 where
+    pub at_goal : at ≡ place (goal_of t n) t
+    pub within : at < length t
+    pub has : has_seat t n ≡ true
+
+  pub seated : {at : ℕ} → Some at ≡ seat_of t n → Seated at
+  unfolding seat_of free_slot has_seat
+  seated {at} e =
+      split (free (named t n))
+      (λ d. split (ltb 0 (count free t))
+      (λ f. let q : Some at ≡ Some (place free t) = rw (d, f) at e in
+      let s : at ≡ place free t = cc in
+      let w = place_in free t (ltb-true 0 (count free t) f) in
+      record { at_goal = rw d s; within = omega arith; has = rw (d, f) })
+      (λ f. let q : Some at ≡ None = rw (d, f) at e in absurd_eq (cc)))
+      (λ d. let q : Some at ≡ Some (place (names n) t) = rw d at e in
+      let s : at ≡ place (names n) t = cc in
+      let w = place_in (names n) t (named_some n t d) in
+      record { at_goal = rw d s; within = omega arith; has = rw d })
+
+  pub unseated : None ≡ seat_of t n → has_seat t n ≡ false
+  unfolding seat_of free_slot has_seat
+  unseated e =
+      split (free (named t n))
+      (λ d. split (ltb 0 (count free t))
+      (λ f. let q : None ≡ Some (place free t) = rw (d, f) at e in absurd_eq (cc))
+      (λ f. rw (d, f)))
+      (λ d. let q : None ≡ Some (place (names n) t) = rw d at e in absurd_eq (cc))
+
+  -- where there is none, the element is new and no slot is free
+  pub record Crowded : Type 0 where
+    pub new : free (named t n) ≡ true
+    pub none : count free t ≡ 0
+
+  pub full_seats : has_seat t n ≡ false → Crowded
+  unfolding has_seat
+  full_seats e =
+      split (free (named t n))
+      (λ d. let f : ltb 0 (count free t) ≡ false = rw d at e in
+      let z = ltb-false 0 (count free t) f in record { new = d; none = omega arith })
+      (λ d. let q : true ≡ false = rw d at e in absurd_eq (cc))
+
+-- where there is one, a record that is new has a free slot
+pub seat_slot : (t : List Object) (r : Aod) → has_seat t r.element ≡ true → Slot t r
+unfolding has_seat
+seat_slot t r e d = let f : ltb 0 (count free t) ≡ true = rw d at e in ltb-true 0 (count free t) f
+
+-- the told outcome of a record
+module _ (t : List Object) (n : ℕ) where
+  pub set_done : has_seat t n ≡ true → Ok tt ≡ set_told t n
+  unfolding set_told
+  set_done h = rw h
+
+  pub set_full : {e : Refused} → has_seat t n ≡ false → e ≡ refused_at R.Full 0 → Err e ≡ set_told t n
+  unfolding set_told
+  set_full h e = rw h (ap Err e)
+
+  pub done_seat : Ok tt ≡ set_told t n → has_seat t n ≡ true
+  unfolding set_told
+  done_seat e = split (has_seat t n) (λ d. d) (λ d. let q : Ok tt ≡ Err (refused_at R.Full 0) = rw d at e in absurd_eq (cc))
+
+  pub record Full (e : Refused) : Type 0 where
+    pub none : has_seat t n ≡ false
+    pub told : e ≡ refused_at R.Full 0
+
+  pub full_told : {e : Refused} → Err e ≡ set_told t n → Full e
+  unfolding set_told
+  full_told {e} h =
+      split (has_seat t n) (λ d. let q : Err e ≡ Ok tt = rw d at h in absurd_eq (cc))
+      (λ d. let q : Err e ≡ Err (refused_at R.Full 0) = rw d at h in
+      let s : e ≡ refused_at R.Full 0 = cc in record { none = d; told = s })

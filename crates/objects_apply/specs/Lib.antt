@@ -1,5 +1,5 @@
 pub mod Applied
+pub mod Held
 pub mod Marks
+pub mod Slots
 pub mod Worked
-pub mod Reached
-pub mod Replied

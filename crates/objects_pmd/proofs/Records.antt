@@ -3,13 +3,14 @@ use mathlib.Core.Path.{◌≡◌, refl, sym, ap, ◌∙◌}
 use mathlib.Core.List.{List, [], ◌∷◌, ◌++◌, map, append-nil}
 use mathlib.Core.Bool.{true}
 use mathlib.Core.Logic.{⊎_elim}
-use Prim.Native.Nat.{ℕ, zero, suc, ◌+◌, ◌*◌, ◌≤◌, ◌<◌}
+use Prim.Native.Nat.{ℕ, zero, suc, ◌+◌, ◌-◌, ◌*◌, ◌≤◌, ◌<◌}
 use native.Mathlib.Nat.{mul-zero, mul-suc}
 use native.Mathlib.Omega.{arith}
 use lib.Dec.{ltb}
 use lib.ListN.{length, take, drop, replicate, length-append, length-drop}
 use lib.Seq.{drop-drop}
 use borrow.Author.Tests.{ltb-false}
+use Rattle.std.specs.Prelude.{Some}
 use Rattle.runs.specs.Those.{Each}
 use Rattle.runs.specs.Digits.{digits}
 use Rattle.runs.specs.Cells.{cells_from}
@@ -22,9 +23,8 @@ use Rattle.bits.specs.Bits.{bits}
 use Rattle.bits.proofs.Bits.{bits_below, length_bits}
 use Rattle.pmd.specs.declared.Kind.{Kind}
 use Rattle.pmd.specs.declared.Kind.TheVariants as K
-use Rattle.pmd.specs.declared.Named.TheVariants as N
-use Rattle.pmd.specs.Fields.{Field}
-use Rattle.pmd.specs.Fields as F
+use Rattle.pmd.specs.declared.Field.{Field}
+use Rattle.pmd.specs.declared.Field.TheVariants as F
 use Rattle.pmd.specs.Table.{width_of, Part, once, record_of}
 use Rattle.pmd.specs.Records.{width, takes, after, closed, opened, first_record}
 use Rattle.pmd.specs.Reading.{read_as}
@@ -145,10 +145,10 @@ module _ (f : Field) (fs : List Field) where
 -- the fields of an AOD's record, and of an XYZ's
 abbrev pub aod_fields : List Field
 aod_fields =
-    F.class ∷ F.dynamic ∷ F.coordinate ∷ F.coordinate ∷ F.coordinate ∷ F.size ∷ F.size3d ∷ F.diverge ∷ F.source ∷ F.gain ∷ []
+    F.Class ∷ F.Dynamic ∷ F.Coordinate ∷ F.Coordinate ∷ F.Coordinate ∷ F.Size ∷ F.Size3d ∷ F.Diverge ∷ F.Source ∷ F.Gain ∷ []
 
 abbrev pub xyz_fields : List Field
-xyz_fields = F.coordinate ∷ F.coordinate ∷ F.coordinate ∷ []
+xyz_fields = F.Coordinate ∷ F.Coordinate ∷ F.Coordinate ∷ []
 
 -- a list can be written, in no more bits than these
 pub record Wrote (again left : List Part) (xs : List ℕ) (most : ℕ) : Type 0 where
@@ -157,8 +157,13 @@ pub record Wrote (again left : List Part) (xs : List ℕ) (most : ℕ) : Type 0 
   pub same : write_from again left xs first ≡ fine run
   pub few : length run ≤ most
 
--- what is read can be, in no more than 4,096 bytes have
-read_wrote : (kind : Kind) (s xs : List ℕ) → read_as (N.Known kind) s ≡ fine xs → Wrote (record_of kind) (first_record kind) xs 32768
+-- what is read can be, in no more than its bytes have, of which there are at most 4,096
+read_short : (kind : Kind) (s xs : List ℕ) → read_as (Some kind) s ≡ fine xs → length s ≤ 4096
+unfolding read_as
+read_short kind s xs e =
+    split (ltb 4096 (length s)) (λ l. let q : refused R.Big 0 ≡ fine xs = simp l at e in absurd_eq (cc)) (λ l. ltb-false 4096 (length s) l)
+
+read_wrote : (kind : Kind) (s xs : List ℕ) → read_as (Some kind) s ≡ fine xs → Wrote (record_of kind) (first_record kind) xs (8 * length s)
 unfolding read_as
 read_wrote kind s xs e =
     split (ltb 4096 (length s))
@@ -170,49 +175,54 @@ read_wrote kind s xs e =
       first = 0;
       run = w.run;
       same = w.same;
-      few = omega (arith, ap length w.whole, length_bits s, ltb-false 4096 (length s) l);
+      few = omega (arith, ap length w.whole, length_bits s);
     })
 
-module _ (s xs : List ℕ) (e : read_as (N.Known K.Aod) s ≡ fine xs) where
+module _ (s xs : List ℕ) (e : read_as (Some K.Aod) s ≡ fine xs) where
   -- the records of an AOD are all of it
-  pub aod_wrote : Wrote (record_of K.Aod) [] xs 32768
+  pub aod_wrote : Wrote (record_of K.Aod) [] xs (8 * length s)
   aod_wrote =
       let w = read_wrote K.Aod s xs e in
-      record { first = w.first; run = w.run; same = closes F.element aod_fields xs w.first w.run w.same; few = w.few }
+      record { first = w.first; run = w.run; same = closes F.Element aod_fields xs w.first w.run w.same; few = w.few }
 
-  aod_whole : Whole F.element aod_fields xs aod_wrote.run
-  aod_whole = let w = aod_wrote in whole F.element aod_fields xs w.first w.run w.same
+  aod_whole : Whole F.Element aod_fields xs aod_wrote.run
+  aod_whole = let w = aod_wrote in whole F.Element aod_fields xs w.first w.run w.same
 
   pub aod_few : length xs ≤ 5291
   unfolding widths
-  aod_few = omega (arith, aod_whole.numbers, aod_whole.bits, aod_wrote.few)
+  aod_few = omega (arith, aod_whole.numbers, aod_whole.bits, aod_wrote.few, read_short K.Aod s xs e)
 
-module _ (s xs : List ℕ) (e : read_as (N.Known K.Xyz) s ≡ fine xs) where
+module _ (s xs : List ℕ) (e : read_as (Some K.Xyz) s ≡ fine xs) where
   -- those of an XYZ are all but its first number, which has 6 bits
-  xyz_ran : Ran (record_of K.Xyz) (F.sample_time ∷ []) (record_of K.Xyz) xs (read_wrote K.Xyz s xs e).run
+  xyz_ran : Ran (record_of K.Xyz) (F.SampleTime ∷ []) (record_of K.Xyz) xs (read_wrote K.Xyz s xs e).run
   xyz_ran =
       let w = read_wrote K.Xyz s xs e in
-      ran (record_of K.Xyz) (F.sample_time ∷ []) (record_of K.Xyz) xs w.first w.run w.same
+      ran (record_of K.Xyz) (F.SampleTime ∷ []) (record_of K.Xyz) xs w.first w.run w.same
 
-  pub xyz_wrote : Wrote (record_of K.Xyz) [] (drop 1 xs) 32762
+  pub xyz_wrote : Wrote (record_of K.Xyz) [] (drop 1 xs) (8 * length s - 6)
   unfolding widths
   xyz_wrote =
       let r = xyz_ran in
       record {
         first = r.next;
         run = r.rest;
-        same = closes F.element xyz_fields (drop 1 xs) r.next r.rest r.from;
+        same = closes F.Element xyz_fields (drop 1 xs) r.next r.rest r.from;
         few = omega (arith, r.paid, (read_wrote K.Xyz s xs e).few);
       }
 
-  xyz_whole : Whole F.element xyz_fields (drop 1 xs) xyz_wrote.run
-  xyz_whole = let w = xyz_wrote in whole F.element xyz_fields (drop 1 xs) w.first w.run w.same
+  xyz_whole : Whole F.Element xyz_fields (drop 1 xs) xyz_wrote.run
+  xyz_whole = let w = xyz_wrote in whole F.Element xyz_fields (drop 1 xs) w.first w.run w.same
 
   pub xyz_some : 5 ≤ length xs
   xyz_some =
       let w = read_wrote K.Xyz s xs e in
-      (ran (record_of K.Xyz) (F.sample_time ∷ F.element ∷ xyz_fields) [] xs w.first w.run w.same).enough
+      (ran (record_of K.Xyz) (F.SampleTime ∷ F.Element ∷ xyz_fields) [] xs w.first w.run w.same).enough
 
   pub xyz_few : length xs ≤ 3121
   unfolding widths
-  xyz_few = omega (arith, xyz_whole.numbers, xyz_whole.bits, length-drop 1 xs, xyz_wrote.few)
+  xyz_few = omega (arith, xyz_whole.numbers, xyz_whole.bits, length-drop 1 xs, xyz_wrote.few, read_short K.Xyz s xs e)
+
+  -- a short value has few numbers
+  pub xyz_short : length s ≤ 672 → length xs ≤ 512
+  unfolding widths
+  xyz_short h = omega (arith, xyz_whole.numbers, xyz_whole.bits, length-drop 1 xs, xyz_wrote.few, h)

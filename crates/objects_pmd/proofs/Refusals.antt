@@ -3,6 +3,7 @@ use mathlib.Core.List.{List, [], ◌∷◌}
 use Prim.Native.Nat.{ℕ, zero, suc, ◌+◌, ◌*◌, ◌<◌}
 use lib.ListN.{length, take, drop}
 use lib.Dec.{eqb, ltb, lit<}
+use Rattle.std.specs.Prelude.{Some}
 use Rattle.runs.specs.Digits.{number}
 use Rattle.runs.proofs.Cases.{split}
 use Rattle.refusals.specs.Outcomes.{Outcome, fine, refused, and_then}
@@ -10,7 +11,6 @@ use Rattle.refusals.specs.Lent.{prepend}
 use Rattle.refusals.specs.Refusals.{number_of}
 use Rattle.bits.specs.Bits.{bits}
 use Rattle.pmd.specs.declared.Kind.{Kind}
-use Rattle.pmd.specs.declared.Named.TheVariants as N
 use Rattle.pmd.specs.Table.{Part, record_of}
 use Rattle.pmd.specs.Records.{width, takes, after, opened, first_record}
 use Rattle.pmd.specs.Reading.{ended, padding, read_from, read_as}
@@ -47,7 +47,7 @@ from_early (suc k) again left bs at =
     v : ℕ
     v = number 2 (take w bs)
 
-pub read_early : (kind : Kind) (s : List ℕ) → Early (read_as (N.Known kind) s)
+pub read_early : (kind : Kind) (s : List ℕ) → Early (read_as (Some kind) s)
 unfolding read_as
 read_early kind s =
     split (ltb 4096 (length s)) (λ l. rw l (lit< tt))

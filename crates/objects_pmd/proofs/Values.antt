@@ -8,14 +8,14 @@ use native.Mathlib.Omega.{arith}
 use lib.ListN.{length, take, drop}
 use lib.Dec.{eqb, ltb, lit<}
 use borrow.Author.Tests.{not-true, ltb-true}
+use Rattle.std.specs.Prelude.{Some}
 use Rattle.runs.specs.Those.{Each}
 use Rattle.runs.proofs.Cases.{split, absurd_eq}
 use Rattle.runs.proofs.Bools.{and_both, both_and}
 use Rattle.runs.proofs.Those.{each_map}
 use Rattle.refusals.specs.Outcomes.{Outcome, fine, refused}
 use Rattle.pmd.specs.declared.Kind.TheVariants as K
-use Rattle.pmd.specs.declared.Named.TheVariants as N
-use Rattle.pmd.specs.Fields as F
+use Rattle.pmd.specs.declared.Field.TheVariants as F
 use Rattle.pmd.specs.Table.{Part, record_of}
 use Rattle.pmd.specs.Records.{takes}
 use Rattle.pmd.specs.Reading.{read_as}
@@ -80,15 +80,15 @@ module _ (s : List ℕ) (at : ℕ) (h : at + 11 ≤ length s) (k : taken (record
       let n = (aod_at s at).element in
       (not-true (eqb n 0) e.1, aod_good, ltb-true n (2 ^ 12) e.0)
 
-aods_proper : (s xs : List ℕ) → read_as (N.Known K.Aod) s ≡ fine xs → Each Proper (aods_of xs)
+aods_proper : (s xs : List ℕ) → read_as (Some K.Aod) s ≡ fine xs → Each Proper (aods_of xs)
 aods_proper s xs e =
     let w = aod_wrote s xs e in
-    cells_each F.element aod_fields Proper aod_at xs (λ at h k. aod_proper xs at h k) (length xs / 11) 0 w.first w.run (omega arith) w.same
+    cells_each F.Element aod_fields Proper aod_at xs (λ at h k. aod_proper xs at h k) (length xs / 11) 0 w.first w.run (omega arith) w.same
 
-pub aod_small : (s xs : List ℕ) → read_as (N.Known K.Aod) s ≡ fine xs → Each (λ (r : Aod). r.element < 4096) (aods_of xs)
+pub aod_small : (s xs : List ℕ) → read_as (Some K.Aod) s ≡ fine xs → Each (λ (r : Aod). r.element < 4096) (aods_of xs)
 aod_small s xs e = each_map (λ r f. f.2) (aods_of xs) (aods_proper s xs e)
 
-pub aod_sound : (s xs : List ℕ) → read_as (N.Known K.Aod) s ≡ fine xs → Sound good (aod (aods_of xs))
+pub aod_sound : (s xs : List ℕ) → read_as (Some K.Aod) s ≡ fine xs → Sound good (aod (aods_of xs))
 aod_sound s xs e = each_map (λ r f. (f.0, f.1)) (aods_of xs) (aods_proper s xs e)
 
 -- AN XYZ
@@ -105,10 +105,10 @@ xyz_keeps s at h k e g =
     singly_taken (record_of K.Aod) (fields_of (moved (xyz_at s at) e))
     (a.0, (a.1.0, (a.1.1.0, (b.1.0, (b.1.1.0, (b.1.1.1.0, a.1.1.1.1.1.1))))))
 
-pub xyz_sound : (s xs : List ℕ) → read_as (N.Known K.Xyz) s ≡ fine xs → Sound good (xyz (xyzs_of xs))
+pub xyz_sound : (s xs : List ℕ) → read_as (Some K.Xyz) s ≡ fine xs → Sound good (xyz (xyzs_of xs))
 xyz_sound s xs e =
     let w = xyz_wrote s xs e in
-    cells_each F.element xyz_fields Keeps xyz_at (drop 1 xs) (λ at h k. xyz_keeps (drop 1 xs) at h k) (length (drop 1 xs) / 4) 0 w.first w.run
+    cells_each F.Element xyz_fields Keeps xyz_at (drop 1 xs) (λ at h k. xyz_keeps (drop 1 xs) at h k) (length (drop 1 xs) / 4) 0 w.first w.run
     (omega arith) w.same
 
 -- ANY VALUE
@@ -128,7 +128,7 @@ pub value_sound : (kind : ℕ) (s : List ℕ) → Sound good (call_of kind s)
 unfolding call_of
 value_sound kind s =
     split (eqb kind 3)
-    (λ e. rw e (aod_call_lem (read_as (N.Known K.Aod) s) (aod_sound s) (read_early K.Aod s)))
+    (λ e. rw e (aod_call_lem (read_as (Some K.Aod) s) (aod_sound s) (read_early K.Aod s)))
     (λ e. split (eqb kind 4)
-    (λ d. rw (e, d) (xyz_call_lem (read_as (N.Known K.Xyz) s) (xyz_sound s) (read_early K.Xyz s)))
+    (λ d. rw (e, d) (xyz_call_lem (read_as (Some K.Xyz) s) (xyz_sound s) (read_early K.Xyz s)))
     (λ d. rw (e, d) (lit< tt)))

@@ -1,10 +1,9 @@
 -- Trusted. The call that a PMD value is, and what PMD asks of a used entry: its eleven numbers are a record that an AOD may have.
-use Rattle.std.specs.Prelude.{List, [], ◌∷◌, Bool, true, false, cond, ◌&&◌, ℕ, ◌+◌, ◌/◌, length, get_or, drop, eqb}
+use Rattle.std.specs.Prelude.{List, [], ◌∷◌, Bool, true, false, cond, ◌&&◌, ℕ, ◌+◌, ◌/◌, length, get_or, drop, eqb, Some}
 use Rattle.runs.specs.Cells.{cells}
 use Rattle.refusals.specs.Outcomes.{Outcome, fine, refused}
 use Rattle.refusals.specs.declared.Refusal.TheVariants as R
 use Rattle.pmd.specs.declared.Kind.TheVariants as K
-use Rattle.pmd.specs.declared.Named.TheVariants as N
 use Rattle.pmd.specs.Table.{Part, record_of}
 use Rattle.pmd.specs.Records.{takes}
 use Rattle.pmd.specs.Reading.{read_as}
@@ -62,5 +61,5 @@ xyz_call (refused why place) = unread why place
 -- the call of a value of this kind: any kind but 3 and 4 is KIND, whatever the bytes
 unfoldable pub call_of : ℕ → List ℕ → Call
 call_of kind s =
-    cond (eqb kind 3) (aod_call (read_as (N.Known K.Aod) s))
-    (cond (eqb kind 4) (xyz_call (read_as (N.Known K.Xyz) s)) (unread R.Kind 0))
+    cond (eqb kind 3) (aod_call (read_as (Some K.Aod) s))
+    (cond (eqb kind 4) (xyz_call (read_as (Some K.Xyz) s)) (unread R.Kind 0))

@@ -8,14 +8,14 @@ use lib.ListN.{length, take, drop}
 use Rattle.runs.proofs.Stands.{part_length}
 use Rattle.refusals.specs.declared.Refusal.{Refusal}
 use Rattle.refusals.specs.declared.Refusal.TheVariants as R
-use Rattle.refusals.specs.declared.Answer.{Answer}
-use Rattle.refusals.specs.declared.Answer.TheVariants as A
+use Rattle.refusals.specs.Outcomes.{Answer}
+use Rattle.std.specs.Prelude.{Ok, Err}
+use Rattle.refusals.specs.Refusals.{refused_at}
 use Rattle.refusals.specs.Outcomes.{Outcome, fine, refused, and_then, answered}
 use Rattle.pack.specs.Payloads.{Ground, payload, inners_from}
 use Rattle.pack.specs.Items.{Part, one, many, Body, item_at, some_inside, sync_ground, sync_head, crc_good, with, items_from, count_of}
 use Rattle.pack.specs.declared.Payload.{Payload}
-use Rattle.pack.specs.declared.Step.{Step}
-use Rattle.pack.specs.declared.Step.TheVariants as S
+use Rattle.pack.specs.Items.{Steps, plain, opens, closes, bad}
 use Rattle.refusals.proofs.Lent.{refused_was, done_was}
 use Rattle.refusals.proofs.Outcomes.{then_fine, then_refused, then_then, then_same, then_id}
 use Rattle.pack.proofs.Payloads.{plain_fits, open_fits}
@@ -32,7 +32,7 @@ inside_part s v l = let e : v + l - (v + 4) ≡ l - 4 = omega arith in ap (λ (x
 pub inside_long : (s : List ℕ) (v l : ℕ) → v + l ≤ length s → 4 ≤ l → length (take (l - 4) (drop (v + 4) s)) ≡ l - 4
 inside_long s v l h f = part_length s (v + 4) (l - 4) (omega arith)
 
-pub inside_enough : (s : List ℕ) (at n v l : ℕ) → item_at s at n ≡ S.Open v l → length (take (l - 4) (drop (v + 4) s)) ≤ l
+pub inside_enough : (s : List ℕ) (at n v l : ℕ) → item_at s at n ≡ opens v l → length (take (l - 4) (drop (v + 4) s)) ≤ l
 inside_enough s at n v l e = let f = open_fits s at n v l e in omega (arith, inside_long s v l f.0.inside f.1)
 
 -- one part more
@@ -75,23 +75,23 @@ module _ {s : List ℕ} {grounds : Ground} {from : ℕ} {ps : List Part} {n at :
   coming_ends h = ended (items_end s grounds at n g.fuel h)
 
   module _ (h : at < length s) where
-    turn : {r : Step} → item_at s at n ≡ r → items_from g.fuel s grounds at n ≡ items_on s grounds at n (g.fuel - 1) r
+    turn : {r : Steps} → item_at s at n ≡ r → items_from g.fuel s grounds at n ≡ items_on s grounds at n (g.fuel - 1) r
     turn e = items_turn s grounds at n (g.fuel - 1) (omega (arith, g.enough)) h e
 
     stopped : {why : Refusal} {p : ℕ} → items_from g.fuel s grounds at n ≡ refused why p → items_from (length s) s grounds from 0 ≡ refused why p
     stopped e = sym g.same ∙ then_refused (before ps) e
 
-    pub coming_bad : {why : Refusal} → item_at s at n ≡ S.Bad why → items_from (length s) s grounds from 0 ≡ refused why at
+    pub coming_bad : {why : Refusal} → item_at s at n ≡ bad why → items_from (length s) s grounds from 0 ≡ refused why at
     coming_bad e = stopped (turn e)
 
     -- a CRC, good or not
-    judged : {v : ℕ} {b : Bool} → item_at s at n ≡ S.Close v → crc_good s v ≡ b → items_from g.fuel s grounds at n ≡ cond b (fine (record { parts = []; crc = true })) (refused R.Crc at)
+    judged : {v : ℕ} {b : Bool} → item_at s at n ≡ closes v → crc_good s v ≡ b → items_from g.fuel s grounds at n ≡ cond b (fine (record { parts = []; crc = true })) (refused R.Crc at)
     judged e d = turn e ∙ ap (λ (b : Bool). cond b (fine (record { parts = []; crc = true })) (refused R.Crc at)) d
 
-    pub coming_good : {v : ℕ} → item_at s at n ≡ S.Close v → crc_good s v ≡ true → items_from (length s) s grounds from 0 ≡ fine (record { parts = ps; crc = true })
+    pub coming_good : {v : ℕ} → item_at s at n ≡ closes v → crc_good s v ≡ true → items_from (length s) s grounds from 0 ≡ fine (record { parts = ps; crc = true })
     coming_good e d = ended (judged e d)
 
-    pub coming_crc : {v : ℕ} → item_at s at n ≡ S.Close v → crc_good s v ≡ false → items_from (length s) s grounds from 0 ≡ refused R.Crc at
+    pub coming_crc : {v : ℕ} → item_at s at n ≡ closes v → crc_good s v ≡ false → items_from (length s) s grounds from 0 ≡ refused R.Crc at
     coming_crc e d = stopped (judged e d)
 
     -- one part more, and what is left after it
@@ -111,21 +111,21 @@ module _ {s : List ℕ} {grounds : Ground} {from : ℕ} {ps : List Part} {n at :
           ∙ g.same;
     }
 
-    pub coming_plain : {t v l : ℕ} → item_at s at n ≡ S.Plain t v l → Coming s grounds from (ps ++ (one (payload grounds at t v l) ∷ [])) (n + 1) (v + l)
+    pub coming_plain : {t v l : ℕ} → item_at s at n ≡ plain t v l → Coming s grounds from (ps ++ (one (payload grounds at t v l) ∷ [])) (n + 1) (v + l)
     unfolding count_of
     coming_plain {t} {v} {l} e =
         let f = plain_fits s at n t v l e in
         on (one (payload grounds at t v l)) (n + 1) (v + l) (omega arith) (omega (arith, f.room)) (omega (arith, f.later)) (turn e)
 
     -- a Sync, by what is told of its inside, as the code cuts it
-    module _ {v l : ℕ} (e : item_at s at n ≡ S.Open v l) {r : Answer} (i : InsideTold (take (v + l - (v + 4)) (drop (v + 4) s)) (sync_ground s grounds v) (v + 4) (n + 1) r) where
+    module _ {v l : ℕ} (e : item_at s at n ≡ opens v l) {r : Answer} (i : InsideTold (take (v + l - (v + 4)) (drop (v + 4) s)) (sync_ground s grounds v) (v + 4) (n + 1) r) where
       answer : r ≡ answered (λ (xs : List Payload). n + 1 + length xs) (inside_run s grounds v l n)
       answer = (subst (λ (q : List ℕ). InsideTold q (sync_ground s grounds v) (v + 4) (n + 1) r) (inside_part s v l) i).told l (inside_enough s at n v l e)
 
-      pub sync_refused : {why : Refusal} {p : ℕ} → r ≡ A.Refused why p → items_from (length s) s grounds from 0 ≡ refused why p
+      pub sync_refused : {why : Refusal} {p : ℕ} → r ≡ Err (refused_at why p) → items_from (length s) s grounds from 0 ≡ refused why p
       sync_refused d = stopped (turn e ∙ then_refused _ (then_refused (some_inside at) (refused_was _ answer d)))
 
-      module _ {k : ℕ} (d : r ≡ A.Done k) where
+      module _ {k : ℕ} (d : r ≡ Ok k) where
         inside : (xs : List Payload) × (inside_run s grounds v l n ≡ fine xs) × (n + 1 + length xs ≡ k)
         inside = done_was (λ (xs : List Payload). n + 1 + length xs) answer d
 

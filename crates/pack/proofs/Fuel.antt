@@ -12,17 +12,16 @@ use Rattle.runs.proofs.Cases.{split, absurd_eq}
 use Rattle.refusals.specs.declared.Refusal.TheVariants as R
 use Rattle.refusals.specs.Outcomes.{Outcome, fine, refused, and_then}
 use Rattle.refusals.proofs.Outcomes.{then_same}
-use Rattle.numbers.specs.declared.TagRead.{TagRead}
-use Rattle.numbers.specs.declared.TagRead.TheVariants as T
+use Rattle.numbers.specs.Reads.{Reads, read, malformed, cut}
 use Rattle.numbers.specs.Tags.{tag_at}
 use Rattle.numbers.proofs.Tags.{tag_next}
 use Rattle.pack.specs.Config.{Mapping, tags_of, labels_of, clashes, mapping_at, mappings_from}
 use Rattle.pack.specs.Payloads.{inner_at, Ground, payload, inners_from}
 use Rattle.pack.specs.Items.{one, many, Body, item_at, inside_of, sync_head, with, items_from}
-use Rattle.pack.specs.declared.Found.{Found}
-use Rattle.pack.specs.declared.Found.TheVariants.{Whole, Wrong}
+use Rattle.std.specs.Prelude.{Ok, Err}
+use Rattle.pack.specs.Payloads.{Found}
 use Rattle.pack.specs.declared.Payload.{Payload}
-use Rattle.pack.specs.declared.Step.{Step}
+use Rattle.pack.specs.Items.{Steps}
 use Rattle.pack.specs.declared.Step.TheVariants as S
 use Rattle.pack.proofs.Payloads.{inner_within, plain_fits, open_fits}
 use Rattle.pack.proofs.Turns.{mappings_end, mappings_turn, inners_on, inners_end, inners_turn, items_on, items_end, items_turn}
@@ -36,10 +35,13 @@ module _ (q : List ℕ) (grounds : Ground) (base : ℕ) where
 
   inners_on_lem : (j k : ℕ) → InnersSame j k → (at used : ℕ) → length q ≤ at + suc k → (r : Found) → inner_at q at used ≡ r
       → inners_on q grounds base at used j r ≡ inners_on q grounds base at used k r
-  inners_on_lem j k same at used h (Whole t v l) e =
+  inners_on_lem j k same at used h (Ok x) e =
+      let t = x.tag in
+      let v = x.value.start in
+      let l = x.value.len in
       ap (λ (o : Outcome (List Payload)). and_then o (λ xs. fine (payload grounds (base + at) t (base + v) l ∷ xs)))
       (same (v + l) (used + 1) (omega (arith, h, (inner_within q at used t v l e).later)))
-  inners_on_lem j k same at used h (Wrong why) e = refl
+  inners_on_lem j k same at used h (Err why) e = refl
 
   inners_enough : (more k : ℕ) → k ≤ more → (at used : ℕ) → length q ≤ at + k → inners_from more q grounds base at used ≡ inners_from k q grounds base at used
   inners_enough more zero le at used h = inners_end q grounds base at used more (omega arith) ∙ sym (inners_end q grounds base at used zero (omega arith))
@@ -61,20 +63,25 @@ module _ (s : List ℕ) (grounds : Ground) where
   abbrev ItemsSame : ℕ → ℕ → Type 0
   ItemsSame j k = (at used : ℕ) → length s ≤ at + k → items_from j s grounds at used ≡ items_from k s grounds at used
 
-  items_on_lem : (j k : ℕ) → ItemsSame j k → (at used : ℕ) → length s ≤ at + suc k → (r : Step) → item_at s at used ≡ r
+  items_on_lem : (j k : ℕ) → ItemsSame j k → (at used : ℕ) → length s ≤ at + suc k → (r : Steps) → item_at s at used ≡ r
       → items_on s grounds at used j r ≡ items_on s grounds at used k r
-  items_on_lem j k same at used h (S.Plain t v l) e =
+  items_on_lem j k same at used h (Ok (S.Plain x)) e =
+      let t = x.tag in
+      let v = x.value.start in
+      let l = x.value.len in
       ap (λ (o : Outcome Body). and_then o (with (one (payload grounds at t v l))))
       (same (v + l) (used + 1) (omega (arith, h, (plain_fits s at used t v l e).later)))
-  items_on_lem j k same at used h (S.Open v l) e =
+  items_on_lem j k same at used h (Ok (S.Open x)) e =
+      let v = x.start in
+      let l = x.len in
       let further : length s ≤ v + l + k = omega (arith, h, (open_fits s at used v l e).0.later) in
       then_same
       (λ xs. and_then (items_from j s grounds (v + l) (used + 1 + length xs)) (with (many (sync_head s at v l (length xs)) xs)))
       (λ xs. and_then (items_from k s grounds (v + l) (used + 1 + length xs)) (with (many (sync_head s at v l (length xs)) xs)))
       (λ xs. ap (λ (o : Outcome Body). and_then o (with (many (sync_head s at v l (length xs)) xs))) (same (v + l) (used + 1 + length xs) further))
       (inside_of s grounds at v l used)
-  items_on_lem j k same at used h (S.Close v) e = refl
-  items_on_lem j k same at used h (S.Bad why) e = refl
+  items_on_lem j k same at used h (Ok (S.Close v)) e = refl
+  items_on_lem j k same at used h (Err why) e = refl
 
   items_enough : (more k : ℕ) → k ≤ more → (at used : ℕ) → length s ≤ at + k → items_from more s grounds at used ≡ items_from k s grounds at used
   items_enough more zero le at used h = items_end s grounds at used more (omega arith) ∙ sym (items_end s grounds at used zero (omega arith))
@@ -99,8 +106,8 @@ module _ (c : List ℕ) (place : ℕ) where
       (λ f. let z : refused R.Count place ≡ fine m = simp f at e in absurd_eq (cc))
       (λ f. tagged (tag_at c at) refl f)
     where
-      tagged : (r : TagRead) → tag_at c at ≡ r → leb 32 (length seen) ≡ false → at < m.place
-      tagged (T.Tag t n) d f =
+      tagged : (r : Reads) → tag_at c at ≡ r → leb 32 (length seen) ≡ false → at < m.place
+      tagged (read t n) d f =
           split (ltb (length c - n) 16)
           (λ g. let z : refused R.Config place ≡ fine m = simp (f, d, g) at e in absurd_eq (cc))
           (λ g. split (clashes (tags_of seen) (labels_of seen) t (take 16 (drop n c)))
@@ -110,8 +117,8 @@ module _ (c : List ℕ) (place : ℕ) where
           let z : fine found ≡ fine m = simp (f, d, g, x) at e in
           let same : found ≡ m = cc in
           omega (arith, (tag_next c at t n d).0, ap (λ (y : Mapping). y.place) same)))
-      tagged T.Bad d f = let z : refused R.Tag place ≡ fine m = simp (f, d) at e in absurd_eq (cc)
-      tagged T.Cut d f = let z : refused R.Config place ≡ fine m = simp (f, d) at e in absurd_eq (cc)
+      tagged malformed d f = let z : refused R.Tag place ≡ fine m = simp (f, d) at e in absurd_eq (cc)
+      tagged cut d f = let z : refused R.Config place ≡ fine m = simp (f, d) at e in absurd_eq (cc)
 
   abbrev MappingsSame : ℕ → ℕ → Type 0
   MappingsSame j k = (seen : List Mapping) (at : ℕ) → length c ≤ at + k → mappings_from j c place seen at ≡ mappings_from k c place seen at

@@ -7,13 +7,13 @@ use native.Mathlib.Omega.{arith}
 use lib.ListN.{length, length-append}
 use Rattle.runs.proofs.Cases.{absurd_eq}
 use Rattle.refusals.specs.declared.Refusal.{Refusal}
-use Rattle.refusals.specs.declared.Answer.{Answer}
-use Rattle.refusals.specs.declared.Answer.TheVariants as A
+use Rattle.refusals.specs.Outcomes.{Answer}
+use Rattle.std.specs.Prelude.{Ok, Err}
+use Rattle.refusals.specs.Refusals.{refused_at}
 use Rattle.refusals.specs.Outcomes.{Outcome, fine, refused, and_then}
 use Rattle.pack.specs.Payloads.{inner_at, Ground, payload, inners_from}
 use Rattle.pack.specs.declared.Payload.{Payload}
-use Rattle.pack.specs.declared.Found.{Found}
-use Rattle.pack.specs.declared.Found.TheVariants.{Whole, Wrong}
+use Rattle.pack.specs.Payloads.{Found, whole, wrong}
 use Rattle.refusals.proofs.Lent.{answers, counts}
 use Rattle.refusals.proofs.Outcomes.{then_fine, then_refused, then_then, then_same, then_id}
 use Rattle.pack.proofs.Payloads.{inner_within}
@@ -49,10 +49,10 @@ module _ {q : List ℕ} {grounds : Ground} {base fuel₀ used : ℕ} {xs : List 
     turn : {r : Found} → inner_at q j k ≡ r → inners_from g.fuel q grounds base j k ≡ inners_on q grounds base j k (g.fuel - 1) r
     turn e = inners_turn q grounds base j k (g.fuel - 1) (omega (arith, g.enough)) h e
 
-    pub inside_stops : {why : Refusal} → inner_at q j k ≡ Wrong why → inners_from fuel₀ q grounds base 0 used ≡ refused why (base + j)
+    pub inside_stops : {why : Refusal} → inner_at q j k ≡ wrong why → inners_from fuel₀ q grounds base 0 used ≡ refused why (base + j)
     inside_stops e = sym g.same ∙ then_refused (after xs) (turn e)
 
-    pub inside_on : {t v l : ℕ} → inner_at q j k ≡ Whole t v l → WithinSync q grounds base fuel₀ used (xs ++ (payload grounds (base + j) t (base + v) l ∷ [])) (k + 1) (v + l)
+    pub inside_on : {t v l : ℕ} → inner_at q j k ≡ whole t v l → WithinSync q grounds base fuel₀ used (xs ++ (payload grounds (base + j) t (base + v) l ∷ [])) (k + 1) (v + l)
     unfolding and_then
     inside_on {t} {v} {l} e =
         let w = inner_within q j k t v l e in
@@ -78,11 +78,11 @@ pub record SomeWithin (q : List ℕ) (grounds : Ground) (base fuel used k j : �
 
 -- what is told when the loop is through, and where it stops
 module _ {q : List ℕ} {grounds : Ground} {base used k j : ℕ} (g : (fuel : ℕ) → length q ≤ fuel → SomeWithin q grounds base fuel used k j) where
-  pub inside_done : length q ≤ j → InsideTold q grounds base used (A.Done k)
+  pub inside_done : length q ≤ j → InsideTold q grounds base used (Ok k)
   inside_done z = record {
-    told = λ fuel h. let w = (g fuel h).inside in counts (λ (xs : List Payload). used + length xs) (inside_ends w z) (ap A.Done (sym w.long));
+    told = λ fuel h. let w = (g fuel h).inside in counts (λ (xs : List Payload). used + length xs) (inside_ends w z) (ap Ok (sym w.long));
     few = λ n e. let x : k ≡ n = cc in omega (arith, (g (length q) (omega arith)).inside.room);
   }
 
-  pub inside_refused : j < length q → {why : Refusal} → inner_at q j k ≡ Wrong why → {r : Answer} → r ≡ A.Refused why (base + j) → InsideTold q grounds base used r
+  pub inside_refused : j < length q → {why : Refusal} → inner_at q j k ≡ wrong why → {r : Answer} → r ≡ Err (refused_at why (base + j)) → InsideTold q grounds base used r
   inside_refused h e i = record { told = λ fuel l. answers _ (inside_stops (g fuel l).inside h e) i; few = λ n d. absurd_eq (cc) }

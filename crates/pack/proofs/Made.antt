@@ -5,26 +5,25 @@ use Prim.Native.Nat.{ℕ, zero, suc, ◌+◌, ◌<◌, ◌≤◌}
 use lib.ListN.{length, get_or, take, drop, replicate, drop_of_length-le}
 use Rattle.pack.specs.Made.{made}
 use Rattle.pack.specs.declared.Item.{Item}
-use Rattle.pack.specs.declared.Slot.{Slot}
 use Rattle.pack.proofs.Slots.{slot_taken}
 
 module _ {A : Type 0} (f : Item → List A) where
   -- of the slot at i of the first `count`, then of those after it
-  pub made_first : (ws : List Slot) (count i : ℕ) (d : Slot) → count ≤ length ws → i < count
-      → made f (drop i (take count ws)) ≡ f (get_or ws i d).item ++ made f (drop (i + 1) (take count ws))
+  pub made_first : (ws : List Item) (count i : ℕ) (d : Item) → count ≤ length ws → i < count
+      → made f (drop i (take count ws)) ≡ f (get_or ws i d) ++ made f (drop (i + 1) (take count ws))
   unfolding made
   made_first ws count i d m h = ap (made f) (slot_taken ws count i d m h)
 
   -- of none
-  pub made_none : (ws : List Slot) (i : ℕ) → length ws ≤ i → made f (drop i ws) ≡ []
+  pub made_none : (ws : List Item) (i : ℕ) → length ws ≤ i → made f (drop i ws) ≡ []
   unfolding made
   made_none ws i h = rw (drop_of_length-le ws {i = i} h) refl
 
   -- the same of each item, the same in all
-  pub made_same : (g : Item → List A) → ((y : Item) → f y ≡ g y) → (ws : List Slot) → made f ws ≡ made g ws
+  pub made_same : (g : Item → List A) → ((y : Item) → f y ≡ g y) → (ws : List Item) → made f ws ≡ made g ws
   unfolding made
   made_same g e [] = refl
-  made_same g e (w ∷ ws) = ap₂ (λ (a b : List A). a ++ b) (e w.item) (made_same g e ws)
+  made_same g e (w ∷ ws) = ap₂ (λ (a b : List A). a ++ b) (e w) (made_same g e ws)
 
 filling : (k i : ℕ) → ◌≡◌ {A = ℕ} (get_or (replicate k 0) i 0) 0
 filling zero i = refl

@@ -11,15 +11,15 @@ use Rattle.runs.proofs.Cases.{split, absurd_eq}
 use Rattle.refusals.specs.declared.Refusal.TheVariants as R
 use Rattle.refusals.specs.Outcomes.{Outcome, fine, refused, and_then}
 use Rattle.refusals.proofs.Outcomes.{then_then}
-use Rattle.numbers.specs.declared.TagRead.TheVariants as T
+use Rattle.numbers.specs.Reads.{read, malformed, cut}
 use Rattle.numbers.specs.Tags.{tag_at}
 use Rattle.pack.specs.Config.{Mapping, tags_of, labels_of, clashes, mapping_at, mappings_from}
 use Rattle.pack.specs.Payloads.{inner_at, case_found, Ground, payload, inners_from}
 use Rattle.pack.specs.Items.{one, many, Body, item_at, case_step, some_inside, inside_of, sync_head, crc_good, with, items_from}
 use Rattle.pack.specs.Reading.{value_start, Opening, opening_at, read_from, reading}
-use Rattle.pack.specs.declared.Found.{Found}
+use Rattle.pack.specs.Payloads.{Found}
 use Rattle.pack.specs.declared.Payload.{Payload}
-use Rattle.pack.specs.declared.Step.{Step}
+use Rattle.pack.specs.Items.{Steps}
 
 -- the mappings after those of `seen`
 module _ (c : List ℕ) (place : ℕ) (seen : List Mapping) (at : ℕ) where
@@ -39,15 +39,15 @@ module _ (c : List ℕ) (place : ℕ) (seen : List Mapping) (at : ℕ) where
   mapping_count h = simp (le-leb _ _ h)
 
   module _ (h : length seen < 32) where
-    pub mapping_bad : tag_at c at ≡ T.Bad → mapping_at c place seen at ≡ refused R.Tag place
+    pub mapping_bad : tag_at c at ≡ malformed → mapping_at c place seen at ≡ refused R.Tag place
     unfolding mapping_at
     mapping_bad e = simp (lt-leb _ _ h, e)
 
-    pub mapping_cut : tag_at c at ≡ T.Cut → mapping_at c place seen at ≡ refused R.Config place
+    pub mapping_cut : tag_at c at ≡ cut → mapping_at c place seen at ≡ refused R.Config place
     unfolding mapping_at
     mapping_cut e = simp (lt-leb _ _ h, e)
 
-    module _ (t n : ℕ) (e : tag_at c at ≡ T.Tag t n) where
+    module _ (t n : ℕ) (e : tag_at c at ≡ read t n) where
       pub mapping_short : length c - n < 16 → mapping_at c place seen at ≡ refused R.Config place
       unfolding mapping_at
       mapping_short g = simp (lt-leb _ _ h, e, lt-ltb _ _ g)
@@ -80,7 +80,7 @@ module _ (q : List ℕ) (grounds : Ground) (base at used : ℕ) where
 
 -- the items
 module _ (s : List ℕ) (grounds : Ground) (at used : ℕ) where
-  abbrev pub items_on : ℕ → Step → Outcome Body
+  abbrev pub items_on : ℕ → Steps → Outcome Body
   items_on j r =
       case_step r (λ t v l. and_then (items_from j s grounds (v + l) (used + 1)) (with (one (payload grounds at t v l))))
       (λ v l. and_then (inside_of s grounds at v l used)
@@ -93,7 +93,7 @@ module _ (s : List ℕ) (grounds : Ground) (at used : ℕ) where
   items_end zero h = refl
   items_end (suc k) h = simp (le-ltb _ _ h)
 
-  pub items_turn : {k : ℕ} (j : ℕ) → k ≡ suc j → at < length s → {r : Step} → item_at s at used ≡ r → items_from k s grounds at used ≡ items_on j r
+  pub items_turn : {k : ℕ} (j : ℕ) → k ≡ suc j → at < length s → {r : Steps} → item_at s at used ≡ r → items_from k s grounds at used ≡ items_on j r
   unfolding items_from
   items_turn j d h e = ap (λ (n : ℕ). items_from n s grounds at used) d ∙ simp (lt-ltb _ _ h, e)
 

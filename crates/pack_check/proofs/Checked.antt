@@ -4,9 +4,9 @@ use mathlib.Core.Path.{◌≡◌, refl, sym, ap, ◌∙◌}
 use mathlib.Core.List.{List}
 use lib.ListN.{length}
 use Rattle.refusals.specs.declared.Refusal.{Refusal}
-use Rattle.refusals.specs.declared.Answer.{Answer}
-use Rattle.refusals.specs.declared.Answer.TheVariants as A
-use Rattle.refusals.specs.Outcomes.{Outcome, fine, refused, and_then, answered}
+use Rattle.std.specs.Prelude.{Err}
+use Rattle.refusals.specs.Refusals.{refused_at}
+use Rattle.refusals.specs.Outcomes.{Outcome, fine, refused, and_then, answered, Answer}
 use Rattle.pack.specs.Payloads.{Ground}
 use Rattle.pack.specs.Items.{Body, items_from, count_of}
 use Rattle.pack.specs.Reading.{Read, Opening, pack_ground, read_from, checked}
@@ -22,7 +22,7 @@ body_count x (fine b) = refl
 body_count x (refused why p) = refl
 
 module _ (s : List ℕ) where
-  pub checked_stops : {why : Refusal} {p : ℕ} → opening s ≡ refused why p → A.Refused why p ≡ checked s
+  pub checked_stops : {why : Refusal} {p : ℕ} → opening s ≡ refused why p → Err (refused_at why p) ≡ checked s
   unfolding checked
   checked_stops e = answers _ (reading_opens s ∙ then_refused (read_from s) e) refl
 

@@ -6,7 +6,7 @@ use mathlib.Core.Bool.{Bool, true, false, ◌||◌}
 use mathlib.Core.Logic.{◌⊎◌, inl, inr, ⊎_elim}
 use native.Mathlib.Omega.{arith}
 use lib.Dec.{leb, eqb}
-use lib.ListN.{length, get_or, set, take, drop, replicate, length-append, length-set, length-map}
+use lib.ListN.{length, get_or, set, take, drop, replicate, length-append, length-set}
 use lib.Seq.{get_or-set_same, get_or-set_other}
 use borrow.Author.Tests.{eqb-true, eqb-false}
 use Rattle.runs.specs.Same.{same, among, listed}
@@ -15,19 +15,24 @@ use Rattle.runs.proofs.Same.{same_true}
 use Rattle.runs.proofs.Those.{each_append}
 use Rattle.refusals.specs.declared.Refusal.{Refusal}
 use Rattle.refusals.specs.declared.Refusal.TheVariants as R
-use Rattle.refusals.specs.declared.Answer.{Answer}
-use Rattle.refusals.specs.declared.Answer.TheVariants as A
+use Rattle.refusals.specs.Outcomes.{Answer}
+use Rattle.std.specs.Prelude.{Ok, Err}
+use Rattle.refusals.specs.Refusals.{refused_at}
 use Rattle.refusals.specs.Outcomes.{Outcome, fine, refused, and_then}
 use Rattle.refusals.proofs.Lent.{counts}
-use Rattle.numbers.specs.declared.TagRead.TheVariants as T
+use Rattle.numbers.specs.Reads.{read}
 use Rattle.numbers.specs.Tags.{tag_at}
 use Rattle.numbers.proofs.Tags.{tag_next}
 use Rattle.labels.specs.Words.{digest_of}
 use Rattle.pack.specs.Fixed.{utility_labels}
+use Rattle.pack.specs.Slots.{padded}
 use Rattle.pack.specs.Config.{Mapping, tags_of, labels_of, places_of, clashes, mapping_at, mappings_from}
 use Rattle.pack.proofs.Turns.{mappings_end, mappings_turn, mapping_clash, mapping_fine}
-use Rattle.pack_config.specs.Tables.{Knows, standing, LabelsLie, Judging, Empty, Tables, MapsWalked}
-use Rattle.pack_config.proofs.Tables.{knows_short, knows_long, tables_none, walk_refused, column_is, column_filled, column_more}
+use Rattle.pack_config.specs.Index.{Knows, standing, LabelsLie}
+use Rattle.pack_config.specs.Columns.{None, Added, Judging}
+use Rattle.pack_config.specs.Tables.{Tables, MapsWalked}
+use Rattle.pack_config.specs.declared.table.Mappings.{Mappings}
+use Rattle.pack_config.proofs.Tables.{tables_none, walk_refused, column_is, column_more}
 
 -- one label more
 listed_more : (l : List ℕ) (xs : List (List ℕ)) (x : List ℕ) → listed l (xs ++ (x ∷ [])) ≡ true → (listed l xs ≡ true) ⊎ (same x l ≡ true)
@@ -65,11 +70,10 @@ free : (tags : List ℕ) (labels : List (List ℕ)) (t : ℕ) (label : List ℕ)
 unfolding clashes
 free tags labels t label h = third (leb t 3) (listed label utility_labels) (among t tags) (listed label labels) h
 
-pub record Sofar (c : List ℕ) (place from k : ℕ) (tags places known marks : List ℕ) (n at : ℕ) : Type 0 where
+pub record Sofar (c : List ℕ) (place from k : ℕ) (m : Mappings) (marks : List ℕ) (at : ℕ) : Type 0 where
   pub ms : List Mapping
   pub fuel : ℕ
-  pub long : length ms ≡ n
-  pub tables : Tables ms tags places known
+  pub tables : Tables ms m
   pub stand : labels_of ms ≡ standing c (places_of ms)
   pub lie : LabelsLie c (places_of ms)
   pub marked : Marked (labels_of ms) marks
@@ -77,12 +81,10 @@ pub record Sofar (c : List ℕ) (place from k : ℕ) (tags places known marks : 
   pub enough : length c ≤ at + fuel
   pub same : mappings_from fuel c place ms at ≡ mappings_from k c place [] from
 
-pub sofar_begins : (c : List ℕ) (place from k : ℕ) {tags places known : List ℕ} → Empty tags places known → length c ≤ from + k
-    → Sofar c place from k tags places known (replicate 251 0) 0 from
-sofar_begins c place from k {tags} {places} {known} e h = record {
+pub sofar_begins : (c : List ℕ) (place from k : ℕ) {m : Mappings} → None m → length c ≤ from + k → Sofar c place from k m (replicate 251 0) from
+sofar_begins c place from k {m} e h = record {
   ms = [];
   fuel = k;
-  long = refl;
   tables = tables_none e;
   stand = refl;
   lie = tt;
@@ -92,113 +94,100 @@ sofar_begins c place from k {tags} {places} {known} e h = record {
   same = refl;
 }
 
-module _ {c : List ℕ} {place from k : ℕ} {tags places known marks : List ℕ} {n at : ℕ} (g : Sofar c place from k tags places known marks n at) where
-  -- the first n places of the tables hold the mappings
-  tags_are : take n tags ≡ tags_of g.ms
-  tags_are = column_is g.ms (λ (m : Mapping). m.tag) g.tables.tagged g.long
+module _ {c : List ℕ} {place from k : ℕ} {m : Mappings} {marks : List ℕ} {at : ℕ} (g : Sofar c place from k m marks at) where
+  -- the places in use hold the mappings
+  tags_are : take m.count m.tags ≡ tags_of g.ms
+  tags_are = column_is g.ms (λ (x : Mapping). x.tag) g.tables.tagged (sym g.tables.counted)
 
-  places_are : take n places ≡ places_of g.ms
-  places_are = column_is g.ms (λ (m : Mapping). m.place) g.tables.placed g.long
+  places_are : take m.count m.places ≡ places_of g.ms
+  places_are = column_is g.ms (λ (x : Mapping). x.place) g.tables.placed (sym g.tables.counted)
 
-  labels_are : standing c (take n places) ≡ labels_of g.ms
+  labels_are : standing c (take m.count m.places) ≡ labels_of g.ms
   labels_are = ap (standing c) places_are ∙ sym g.stand
 
-  few : n ≤ 32
-  few = omega (arith, g.long, g.tables.few)
-
-  pub sofar_judging : (next : ℕ) {m d : ℕ} → next + 16 ≤ length c → d ≡ digest_of (take 16 (drop next c)) → m ≡ get_or marks d 0 → Judging c tags places known n next m
-  sofar_judging next {m} {d} h e r = record {
-    tagged = column_filled g.ms (λ (x : Mapping). x.tag) g.tables.tagged g.long few;
-    placed = column_filled g.ms (λ (x : Mapping). x.place) g.tables.placed g.long few;
-    index = subst (λ (l : List ℕ). Knows l known) (sym tags_are) g.tables.index;
+  pub sofar_judging : (next : ℕ) {n d : ℕ} → next + 16 ≤ length c → d ≡ digest_of (take 16 (drop next c)) → n ≡ get_or marks d 0 → Judging c m next n
+  sofar_judging next {n} {d} h e r = record {
     lie = subst (LabelsLie c) (sym places_are) g.lie;
     label = h;
     unmarked = λ z.
-        split (listed (take 16 (drop next c)) (standing c (take n places)))
+        split (listed (take 16 (drop next c)) (standing c (take m.count m.places)))
         (λ i.
         let q : get_or marks (digest_of (take 16 (drop next c))) 0 ≡ 1
         = g.marked (take 16 (drop next c)) (sym (ap (listed (take 16 (drop next c))) labels_are) ∙ i) in
-        let w : m ≡ 1 = r ∙ ap (λ (x : ℕ). get_or marks x 0) e ∙ q in
+        let w : n ≡ 1 = r ∙ ap (λ (x : ℕ). get_or marks x 0) e ∙ q in
         absurd (omega arith))
         (λ i. i);
   }
 
-  -- MAP as the tables tell it is MAP
-  clash_is : (t : ℕ) (label : List ℕ) {r : Bool} → r ≡ clashes (take n tags) (standing c (take n places)) t label → clashes (tags_of g.ms) (labels_of g.ms) t label ≡ r
+  -- MAP as the arrays tell it is MAP
+  clash_is : (t : ℕ) (label : List ℕ) {r : Bool} → r ≡ clashes (take m.count m.tags) (standing c (take m.count m.places)) t label → clashes (tags_of g.ms) (labels_of g.ms) t label ≡ r
   clash_is t label e = sym (e ∙ ap₂ (λ (a : List ℕ) (b : List (List ℕ)). clashes a b t label) tags_are labels_are)
 
-  pub sofar_ends : length c ≤ at → MapsWalked (mappings_from k c place [] from) (A.Done n) tags places known
+  pub sofar_ends : length c ≤ at → MapsWalked (mappings_from k c place [] from) (Ok m.count) m
   sofar_ends h =
       let e : mappings_from k c place [] from ≡ fine g.ms = sym g.same ∙ mappings_end c place g.ms at g.fuel h in
       record {
-        count = counts length e (ap A.Done (sym g.long));
-        tables = λ ms d. let same : g.ms ≡ ms = cc in subst (λ (x : List Mapping). Tables x tags places known) same g.tables;
+        count = counts length e (ap Ok g.tables.counted);
+        tables = λ ms d. let same : g.ms ≡ ms = cc in subst (λ (x : List Mapping). Tables x m) same g.tables;
       }
 
   module _ (h : at < length c) where
     turn : {o : Outcome Mapping} → mapping_at c place g.ms at ≡ o
-        → mappings_from g.fuel c place g.ms at ≡ and_then o (λ m. mappings_from (g.fuel - 1) c place (g.ms ++ (m ∷ [])) (m.place + 16))
+        → mappings_from g.fuel c place g.ms at ≡ and_then o (λ x. mappings_from (g.fuel - 1) c place (g.ms ++ (x ∷ [])) (x.place + 16))
     turn e = mappings_turn c place g.ms at (g.fuel - 1) (omega (arith, g.enough)) h e
 
-    -- the mapping at this place is refused, whatever the tables hold then
-    pub sofar_stops : {why : Refusal} {p : ℕ} {r : Answer} {us vs ws : List ℕ} → mapping_at c place g.ms at ≡ refused why p → r ≡ A.Refused why p
-        → MapsWalked (mappings_from k c place [] from) r us vs ws
+    -- the mapping at this place is refused, whatever the arrays hold then
+    pub sofar_stops : {why : Refusal} {p : ℕ} {r : Answer} {n : Mappings} → mapping_at c place g.ms at ≡ refused why p → r ≡ Err (refused_at why p)
+        → MapsWalked (mappings_from k c place [] from) r n
     unfolding and_then
     sofar_stops e q = walk_refused (sym g.same ∙ turn e) q
 
-    module _ (b : n < 32) where
+    module _ (b : m.count < 32) where
       pub room : length g.ms < 32
-      room = omega (arith, g.long)
+      room = omega (arith, g.tables.counted)
 
-      module _ {t m : ℕ} (e : tag_at c at ≡ T.Tag t m) (d : 16 ≤ length c - m) {r : Bool} (f : r ≡ clashes (take n tags) (standing c (take n places)) t (take 16 (drop m c))) where
+      module _ {t p : ℕ} (e : tag_at c at ≡ read t p) (d : 16 ≤ length c - p) {r : Bool} (f : r ≡ clashes (take m.count m.tags) (standing c (take m.count m.places)) t (take 16 (drop p c))) where
         pub sofar_clash : r ≡ true → mapping_at c place g.ms at ≡ refused R.Map place
-        sofar_clash i = mapping_clash c place g.ms at room t m e d (clash_is t (take 16 (drop m c)) f ∙ i)
+        sofar_clash i = mapping_clash c place g.ms at room t p e d (clash_is t (take 16 (drop p c)) f ∙ i)
 
-        -- it stands, and goes into the tables
+        -- it stands, and goes into the arrays
         abbrev new : Mapping
-        new = record { tag = t; stands = take 16 (drop m c); place = m }
+        new = record { tag = t; stands = take 16 (drop p c); place = p }
 
-        stood : r ≡ false → clashes (tags_of g.ms) (labels_of g.ms) t (take 16 (drop m c)) ≡ false
-        stood i = clash_is t (take 16 (drop m c)) f ∙ i
+        stood : r ≡ false → clashes (tags_of g.ms) (labels_of g.ms) t (take 16 (drop p c)) ≡ false
+        stood i = clash_is t (take 16 (drop p c)) f ∙ i
 
-        more : {ws : List ℕ} {x : ℕ} → r ≡ false → x ≡ digest_of (take 16 (drop m c)) → x < 251 → length ws ≡ 128 → Knows (tags_of g.ms ++ (t ∷ [])) ws
-            → Sofar c place from k (set tags n t) (set places n m) ws (set marks x 1) (n + 1) (m + 16)
+        pub sofar_free : r ≡ false → among t (take m.count m.tags) ≡ false
+        sofar_free i = ap (among t) tags_are ∙ free (tags_of g.ms) (labels_of g.ms) t (take 16 (drop p c)) (stood i)
+
+        pub sofar_more : {n : Mappings} {x : ℕ} → r ≡ false → x ≡ digest_of (take 16 (drop p c)) → x < 251 → length n.known ≡ 128 → Added m t p n
+            → Sofar c place from k n (set marks x 1) (p + 16)
         unfolding and_then
-        more {ws} {x} i y z v w =
-            let fits : m + 16 ≤ length c = omega arith in
-            let later = tag_next c at t m e in
+        sofar_more {n} {x} i y z v w =
+            let fits : p + 16 ≤ length c = omega arith in
+            let later = tag_next c at t p e in
+            let long : length (g.ms ++ (new ∷ [])) ≡ n.count = omega (arith, length-append g.ms (new ∷ []), g.tables.counted, w.counted) in
+            let tags : n.tags ≡ padded 32 0 (tags_of (g.ms ++ (new ∷ [])))
+            = w.tagged ∙ column_more g.ms (λ (q : Mapping). q.tag) g.tables.tagged (sym g.tables.counted) new b in
             record {
               ms = g.ms ++ (new ∷ []);
               fuel = g.fuel - 1;
-              long = omega (arith, length-append g.ms (new ∷ []), g.long);
               tables = record {
-                tagged = column_more g.ms (λ (q : Mapping). q.tag) g.tables.tagged g.long new b;
-                placed = column_more g.ms (λ (q : Mapping). q.place) g.tables.placed g.long new b;
-                index = subst (λ (l : List ℕ). Knows l ws) (sym (map-append (λ (q : Mapping). q.tag) g.ms (new ∷ []))) w;
+                counted = sym long;
+                tagged = tags;
+                placed = w.placed ∙ column_more g.ms (λ (q : Mapping). q.place) g.tables.placed (sym g.tables.counted) new b;
+                index = subst (λ (l : List ℕ). Knows l n.known) (column_is (g.ms ++ (new ∷ [])) (λ (q : Mapping). q.tag) tags long) n.index;
                 indexes = v;
-                few = omega (arith, length-append g.ms (new ∷ []), g.long);
               };
               stand =
                   map-append (λ (q : Mapping). q.stands) g.ms (new ∷ [])
-                  ∙ ap (λ (l : List (List ℕ)). l ++ (take 16 (drop m c) ∷ [])) g.stand
-                  ∙ sym (ap (standing c) (map-append (λ (q : Mapping). q.place) g.ms (new ∷ [])) ∙ map-append (λ (p : ℕ). take 16 (drop p c)) (places_of g.ms) (m ∷ []));
-              lie = subst (LabelsLie c) (sym (map-append (λ (q : Mapping). q.place) g.ms (new ∷ []))) (each_append (λ (p : ℕ). p + 16 ≤ length c) (places_of g.ms) (m ∷ []) g.lie (fits, tt));
+                  ∙ ap (λ (l : List (List ℕ)). l ++ (take 16 (drop p c) ∷ [])) g.stand
+                  ∙ sym (ap (standing c) (map-append (λ (q : Mapping). q.place) g.ms (new ∷ [])) ∙ map-append (λ (q : ℕ). take 16 (drop q c)) (places_of g.ms) (p ∷ []));
+              lie = subst (LabelsLie c) (sym (map-append (λ (q : Mapping). q.place) g.ms (new ∷ []))) (each_append (λ (q : ℕ). q + 16 ≤ length c) (places_of g.ms) (p ∷ []) g.lie (fits, tt));
               marked =
                   subst (λ (l : List (List ℕ)). Marked l (set marks x 1)) (sym (map-append (λ (q : Mapping). q.stands) g.ms (new ∷ [])))
-                  (marked_more (labels_of g.ms) marks (take 16 (drop m c)) x y (omega (arith, g.digests)) g.marked);
+                  (marked_more (labels_of g.ms) marks (take 16 (drop p c)) x y (omega (arith, g.digests)) g.marked);
               digests = length-set marks x 1 ∙ g.digests;
               enough = omega (arith, g.enough);
-              same = sym (turn (mapping_fine c place g.ms at room t m e d (stood i))) ∙ g.same;
+              same = sym (turn (mapping_fine c place g.ms at room t p e d (stood i))) ∙ g.same;
             }
-
-        pub sofar_known : {x : ℕ} → r ≡ false → x ≡ digest_of (take 16 (drop m c)) → x < 251 → t < 128
-            → Sofar c place from k (set tags n t) (set places n m) (set known t (n + 1)) (set marks x 1) (n + 1) (m + 16)
-        sofar_known i y z l =
-            more i y z (length-set known t (n + 1) ∙ g.tables.indexes)
-            (knows_short (tags_of g.ms) known t n (free (tags_of g.ms) (labels_of g.ms) t (take 16 (drop m c)) (stood i)) (length-map g.ms (λ (q : Mapping). q.tag) ∙ g.long) g.tables.index l g.tables.indexes)
-
-        pub sofar_more : {x : ℕ} → r ≡ false → x ≡ digest_of (take 16 (drop m c)) → x < 251 → 128 ≤ t
-            → Sofar c place from k (set tags n t) (set places n m) known (set marks x 1) (n + 1) (m + 16)
-        sofar_more i y z l =
-            more i y z g.tables.indexes
-            (knows_long (tags_of g.ms) known t n (free (tags_of g.ms) (labels_of g.ms) t (take 16 (drop m c)) (stood i)) (length-map g.ms (λ (q : Mapping). q.tag) ∙ g.long) g.tables.index l)

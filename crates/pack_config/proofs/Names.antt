@@ -12,7 +12,7 @@ use borrow.Author.Tests.{eq-eqb, ne_eqb}
 use Rattle.runs.specs.Same.{among}
 use Rattle.runs.proofs.Cases.{split}
 use Rattle.pack.specs.Payloads.{name_from, name_of}
-use Rattle.pack_config.specs.Tables.{indexed}
+use Rattle.pack_config.specs.Index.{indexed}
 use Rattle.pack.specs.declared.Name.{Name}
 use Rattle.pack.specs.declared.Name.TheVariants.{Label, Number}
 

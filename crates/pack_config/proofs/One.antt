@@ -6,10 +6,12 @@ use native.Mathlib.Omega.{arith}
 use lib.ListN.{length}
 use lib.Seq.{ext_get_or}
 use Rattle.runs.proofs.Cases.{one, absurd_eq}
-use Rattle.refusals.specs.declared.Answer.{Answer}
+use Rattle.refusals.specs.Outcomes.{Answer}
 use Rattle.refusals.specs.Outcomes.{Outcome}
 use Rattle.pack.specs.Config.{Mapping}
-use Rattle.pack_config.specs.Tables.{indexed, Knows, MapsRead}
+use Rattle.pack_config.specs.declared.table.Mappings.{Mappings}
+use Rattle.pack_config.specs.Index.{indexed, Knows}
+use Rattle.pack_config.specs.Tables.{MapsRead}
 
 -- two entries of the index that tell the same name are the same
 indexed_apart : (i j t : ℕ) → indexed i t ≡ indexed j t → i ≡ j
@@ -23,9 +25,9 @@ indexed_apart (suc i) (suc j) t e = ap suc (cc)
 pub index_one : (tags : List ℕ) {a b : List ℕ} → Knows tags a → Knows tags b → length a ≡ 128 → length b ≡ 128 → a ≡ b
 index_one tags {a} {b} g h l m = ext_get_or 0 a b (one l m) (λ i d. indexed_apart _ _ i (sym (g i (omega arith)) ∙ h i (omega arith)))
 
-pub maps_one : (o : Outcome (List Mapping)) (a b : Answer) (ts ps ks us qs ls : List ℕ) → MapsRead o a ts ps ks → MapsRead o b us qs ls
-    → (a ≡ b) × (ts ≡ us) × (ps ≡ qs) × (ks ≡ ls)
-maps_one o a b ts ps ks us qs ls g h =
+pub maps_one : (o : Outcome (List Mapping)) (a b : Answer) (m n : Mappings) → MapsRead o a m → MapsRead o b n
+    → (a ≡ b) × (m.count ≡ n.count) × (m.tags ≡ n.tags) × (m.places ≡ n.places) × (m.known ≡ n.known)
+maps_one o a b m n g h =
     let x = g.tables in
     let y = h.tables in
-    (one g.count h.count, one x.tagged y.tagged, one x.placed y.placed, index_one _ x.index y.index x.indexes y.indexes)
+    (one g.count h.count, one x.counted y.counted, one x.tagged y.tagged, one x.placed y.placed, index_one _ x.index y.index x.indexes y.indexes)

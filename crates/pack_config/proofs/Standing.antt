@@ -8,7 +8,7 @@ use lib.ListN.{length, take, drop, get_or, length-map}
 use lib.Seq.{get_or-take, length-take-le}
 use Rattle.runs.specs.Same.{same}
 use Rattle.runs.proofs.Those.{each_at}
-use Rattle.pack_config.specs.Tables.{standing, LabelsLie}
+use Rattle.pack_config.specs.Index.{standing, LabelsLie}
 
 get_d_map : (f : ℕ → List ℕ) (l : List ℕ) (i d : ℕ) → i < length l → get_or (map f l) i [] ≡ f (get_or l i d)
 get_d_map f [] i d h = absurd (omega arith)

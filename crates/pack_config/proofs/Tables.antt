@@ -13,15 +13,21 @@ use borrow.Author.Tests.{eq-eqb, ne_eqb, eqb-true, eqb-false}
 use Rattle.runs.specs.Same.{among}
 use Rattle.runs.proofs.Cases.{split, absurd_eq}
 use Rattle.refusals.specs.declared.Refusal.{Refusal}
-use Rattle.refusals.specs.declared.Answer.{Answer}
-use Rattle.refusals.specs.declared.Answer.TheVariants as A
-use Rattle.refusals.specs.Outcomes.{Outcome, refused}
-use Rattle.refusals.proofs.Lent.{answers, done_was}
+use Rattle.refusals.specs.Outcomes.{Answer}
+use Rattle.std.specs.Prelude.{Ok, Err}
+use Rattle.refusals.specs.Refusals.{refused_at}
+use Rattle.refusals.specs.Outcomes.{Outcome, fine, refused, answered}
+use Rattle.refusals.proofs.Lent.{answers}
 use Rattle.pack.specs.Payloads.{name_from, name_of}
 use Rattle.pack.specs.Config.{Mapping}
 use Rattle.pack.specs.Slots.{padded}
-use Rattle.pack.proofs.Padded.{length_padded, take_padded, set_padded}
-use Rattle.pack_config.specs.Tables.{Filled, indexed, Knows, Empty, Tables, MapsWalked, maps_of, MapsRead}
+use Rattle.pack.proofs.Padded.{take_padded, set_padded}
+use Rattle.std.specs.Result.{is_err}
+use Rattle.refusals.specs.declared.Refused.{Refused}
+use Rattle.pack_config.specs.declared.table.Mappings.{Mappings}
+use Rattle.pack_config.specs.Index.{indexed, Knows}
+use Rattle.pack_config.specs.Columns.{None}
+use Rattle.pack_config.specs.Tables.{Tables, MapsWalked, maps_of, MapsRead}
 use Rattle.pack.specs.declared.Name.TheVariants.{Label}
 
 -- one tag more: its name is its index, and no other tag's name changes
@@ -55,34 +61,37 @@ module _ (tags known : List ℕ) (t n : ℕ) (free : among t tags ≡ false) (is
   knows_long h u b = name_kept 0 tags t u (λ e. absurd (omega arith)) ∙ g u b
 
 -- no tag is known at first
-knows_none : Knows [] (replicate 128 0)
+pub knows_none : Knows [] (replicate 128 0)
 unfolding name_from indexed
 knows_none t h = sym (ap (λ (k : ℕ). indexed k t) (get_or-replicate 128 t 0 0 h))
 
-pub tables_none : {tags places known : List ℕ} → Empty tags places known → Tables [] tags places known
-tables_none e = record { tagged = e.tagged; placed = e.placed; index = subst (Knows []) (sym e.index) knows_none; indexes = ap length e.index; few = omega arith }
+pub tables_none : {m : Mappings} → None m → Tables [] m
+tables_none e = record { counted = e.counted; tagged = e.tagged; placed = e.placed; index = subst (Knows []) (sym e.index) knows_none; indexes = ap length e.index }
 
 -- a walk that is refused says nothing of the tables
-pub walk_refused : {o : Outcome (List Mapping)} {why : Refusal} {p : ℕ} {r : Answer} {us vs ws : List ℕ} → o ≡ refused why p → r ≡ A.Refused why p → MapsWalked o r us vs ws
+pub walk_refused : {o : Outcome (List Mapping)} {why : Refusal} {p : ℕ} {r : Answer} {m : Mappings} → o ≡ refused why p → r ≡ Err (refused_at why p) → MapsWalked o r m
 walk_refused e q = record { count = answers length e q; tables = λ ms d. absurd_eq (cc) }
 
--- the mappings are read where the tables are empty after a refusal, or the walk came to their end
-module _ {o : Outcome (List Mapping)} {us vs ws : List ℕ} where
-  pub read_refused : {why : Refusal} {p : ℕ} {r : Answer} → o ≡ refused why p → r ≡ A.Refused why p → Empty us vs ws → MapsRead o r us vs ws
-  read_refused e q n = record { count = answers length e q; tables = subst (λ (x : Outcome (List Mapping)). Tables (maps_of x) us vs ws) (sym e) (tables_none n) }
+-- the mappings are read where there are none after a refusal
+module _ {o : Outcome (List Mapping)} {m : Mappings} where
+  pub read_refused : {why : Refusal} {p : ℕ} {r : Answer} → o ≡ refused why p → r ≡ Err (refused_at why p) → None m → MapsRead o r m
+  read_refused e q n = record { count = answers length e q; tables = subst (λ (x : Outcome (List Mapping)). Tables (maps_of x) m) (sym e) (tables_none n) }
 
-  pub read_walked : {r : Answer} {n : ℕ} → MapsWalked o r us vs ws → r ≡ A.Done n → MapsRead o (A.Done n) us vs ws
-  read_walked g e =
-      let d = done_was length g.count e in
-      record { count = sym e ∙ g.count; tables = subst (λ (x : Outcome (List Mapping)). Tables (maps_of x) us vs ws) (sym d.1) (g.tables d.0 d.1) }
+-- a walk that fails, after which there are none, and one that does not
+pub read_failed : (o : Outcome (List Mapping)) {r : Answer} {m n : Mappings} → MapsWalked o r m → is_err r ≡ true → None n → MapsRead o r n
+unfolding answered
+read_failed (fine ms) g e k = let z : is_err {T = ℕ} {E = Refused} (Ok (length ms)) ≡ true = ap is_err (sym g.count) ∙ e in absurd_eq (cc)
+read_failed (refused why p) g e k = read_refused refl g.count k
+
+pub read_held : (o : Outcome (List Mapping)) {r : Answer} {m : Mappings} → MapsWalked o r m → is_err r ≡ false → MapsRead o r m
+unfolding answered
+read_held (fine ms) g e = record { count = g.count; tables = g.tables ms refl }
+read_held (refused why p) g e = let z : is_err {T = ℕ} {E = Refused} (Err (refused_at why p)) ≡ false = ap is_err (sym g.count) ∙ e in absurd_eq (cc)
 
 -- a column of the mappings as a table has it: the places in use, and one mapping more
 module _ (ms : List Mapping) (f : Mapping → ℕ) {table : List ℕ} {n : ℕ} (e : table ≡ padded 32 0 (map f ms)) (l : length ms ≡ n) where
   pub column_is : take n table ≡ map f ms
   column_is = ap (take n) e ∙ take_padded 32 0 (map f ms) n (length-map ms f ∙ l)
-
-  pub column_filled : n ≤ 32 → Filled n table
-  column_filled h = let long = ap length e ∙ length_padded 32 0 (map f ms) n (length-map ms f ∙ l) h in record { few = h; there = omega arith }
 
   pub column_more : (m : Mapping) → n < 32 → set table n (f m) ≡ padded 32 0 (map f (ms ++ (m ∷ [])))
   column_more m h =

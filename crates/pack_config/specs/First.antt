@@ -1,9 +1,8 @@
 -- Inner. What the code looks for first.
-use Rattle.std.specs.Prelude.{List, cond, ℕ, eqb}
+use Rattle.std.specs.Prelude.{List, cond, Option, Some, None, ℕ, eqb}
 use Rattle.pack.specs.Payloads.{payload_at, case_found}
-use Rattle.pack_config.specs.declared.First.{First}
-use Rattle.pack_config.specs.declared.First.TheVariants as F
+use Rattle.pack.specs.declared.Stretch.{Stretch}
 
--- a whole Config at `at`, or something else
-unfoldable pub first_at : List ℕ → ℕ → First
-first_at s at = case_found (payload_at s at) (λ t v l. cond (eqb t 1) (F.Config v l) F.Other) (λ why. F.Other)
+-- the value of a whole Config at `at`, if one is there
+unfoldable pub first_at : List ℕ → ℕ → Option Stretch
+first_at s at = case_found (payload_at s at) (λ t v l. cond (eqb t 1) (Some (record { start = v; len = l })) None) (λ why. None)

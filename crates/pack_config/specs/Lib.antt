@@ -1,2 +1,4 @@
 pub mod First
+pub mod Index
+pub mod Columns
 pub mod Tables

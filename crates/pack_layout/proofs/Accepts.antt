@@ -16,13 +16,10 @@ use Rattle.refusals.specs.Outcomes.{fine, refused, and_then}
 use Rattle.numbers.specs.Big.{big_at}
 use Rattle.crc.specs.Crc.{crc_of}
 use Rattle.pack.specs.Fixed.{item_cap}
-use Rattle.pack.specs.declared.Found.{Found}
-use Rattle.pack.specs.declared.Found.TheVariants.{Whole, Wrong}
+use Rattle.pack.specs.Payloads.{payload_at, inner_at, Ground, payload, inners_from, Found, whole}
+use Rattle.std.specs.Prelude.{Ok, Err}
 use Rattle.pack.specs.declared.Payload.{Payload}
-use Rattle.pack.specs.declared.Step.{Step}
-use Rattle.pack.specs.declared.Step.TheVariants as S
-use Rattle.pack.specs.Payloads.{payload_at, inner_at, Ground, payload, inners_from}
-use Rattle.pack.specs.Items.{Part, one, many, Body, judged, item_at, some_inside, sync_ground, inside_of, sync_head, with, items_from}
+use Rattle.pack.specs.Items.{Part, one, many, Body, Steps, plain, opens, closes, bad, judged, item_at, some_inside, sync_ground, inside_of, sync_head, with, items_from}
 use Rattle.pack.proofs.Payloads.{payload_within, seen_inner, seen_item}
 use Rattle.pack.proofs.Turns.{inners_end, inners_turn, items_end, items_turn, inside_some}
 use Rattle.refusals.proofs.Outcomes.{then_fine, then_was}
@@ -31,11 +28,11 @@ use Rattle.pack_layout.proofs.Elements.{payload_laid}
 -- the payloads of a part q that stands at `base` of the pack, from `at` on, where `used` items and payloads came before
 pub data InnersRead (q : List ℕ) (grounds : Ground) (base : ℕ) : ℕ → ℕ → List Payload → Type 0 where
   none_inside : {at used : ℕ} → length q ≤ at → InnersRead q grounds base at used []
-  next_inside : {at used : ℕ} {xs : List Payload} (t v l : ℕ) → payload_at q at ≡ Whole t v l → 3 < t → used < item_cap
+  next_inside : {at used : ℕ} {xs : List Payload} (t v l : ℕ) → payload_at q at ≡ whole t v l → 3 < t → used < item_cap
       → InnersRead q grounds base (v + l) (used + 1) xs → InnersRead q grounds base at used (payload grounds (base + at) t (base + v) l ∷ xs)
 
 module _ (q : List ℕ) (grounds : Ground) (base : ℕ) where
-  pub inner_turn : (k at used t v l : ℕ) → at < length q → payload_at q at ≡ Whole t v l → 3 < t → used < item_cap
+  pub inner_turn : (k at used t v l : ℕ) → at < length q → payload_at q at ≡ whole t v l → 3 < t → used < item_cap
       → inners_from (suc k) q grounds base at used
       ≡ and_then (inners_from k q grounds base (v + l) (used + 1)) (λ xs. fine (payload grounds (base + at) t (base + v) l ∷ xs))
   inner_turn k at used t v l i e h u = inners_turn q grounds base at used k refl i (sym (seen_inner q at used t v l (record { audio = h; there = e }) u))
@@ -61,8 +58,11 @@ module _ (q : List ℕ) (grounds : Ground) (base : ℕ) where
     where
       found : ((m n : ℕ) (ys : List Payload) → length q ≤ m + k → inners_from k q grounds base m n ≡ fine ys → InnersRead q grounds base m n ys)
           → (f : Found) → payload_at q at ≡ f → ltb at (length q) ≡ true → InnersRead q grounds base at used xs
-      found ih (Wrong why) e a = let i : refused why (base + at) ≡ fine xs = simp (a, e) at h in absurd_eq (cc)
-      found ih (Whole t v l) e a =
+      found ih (Err why) e a = let i : refused why (base + at) ≡ fine xs = simp (a, e) at h in absurd_eq (cc)
+      found ih (Ok x) e a =
+          let t = x.tag in
+          let v = x.value.start in
+          let l = x.value.len in
           split (leb t 3)
           (λ b. let i : refused R.Place (base + at) ≡ fine xs = simp (a, e, b) at h in absurd_eq (cc))
           (λ b. split (leb item_cap used)
@@ -78,10 +78,10 @@ module _ (q : List ℕ) (grounds : Ground) (base : ℕ) where
 -- the items of the pack s from `at` on, where `used` items and payloads came before, and whether a CRC stands there
 pub data ItemsRead (s : List ℕ) (grounds : Ground) : ℕ → ℕ → List Part → Bool → Type 0 where
   ended : {at used : ℕ} → length s ≤ at → ItemsRead s grounds at used [] false
-  closed : {at used : ℕ} (v : ℕ) → payload_at s at ≡ Whole 3 v 4 → v + 4 ≡ length s → big_at s v 4 ≡ crc_of (take v s) → ItemsRead s grounds at used [] true
-  next_plain : {at used : ℕ} {parts : List Part} {mark : Bool} (t v l : ℕ) → payload_at s at ≡ Whole t v l → 3 < t → used < item_cap
+  closed : {at used : ℕ} (v : ℕ) → payload_at s at ≡ whole 3 v 4 → v + 4 ≡ length s → big_at s v 4 ≡ crc_of (take v s) → ItemsRead s grounds at used [] true
+  next_plain : {at used : ℕ} {parts : List Part} {mark : Bool} (t v l : ℕ) → payload_at s at ≡ whole t v l → 3 < t → used < item_cap
       → ItemsRead s grounds (v + l) (used + 1) parts mark → ItemsRead s grounds at used (one (payload grounds at t v l) ∷ parts) mark
-  next_sync : {at used : ℕ} {parts : List Part} {mark : Bool} (v l : ℕ) (xs : List Payload) → payload_at s at ≡ Whole 2 v l → 4 ≤ l → used < item_cap → 0 < length xs
+  next_sync : {at used : ℕ} {parts : List Part} {mark : Bool} (v l : ℕ) (xs : List Payload) → payload_at s at ≡ whole 2 v l → 4 ≤ l → used < item_cap → 0 < length xs
       → InnersRead (take (l - 4) (drop (v + 4) s)) (sync_ground s grounds v) (v + 4) 0 (used + 1) xs
       → ItemsRead s grounds (v + l) (used + 1 + length xs) parts mark → ItemsRead s grounds at used (many (sync_head s at v l (length xs)) xs ∷ parts) mark
 
@@ -99,11 +99,11 @@ pub data BadItem (s : List ℕ) (used t v l : ℕ) : Refusal → Type 0 where
   small : t ≡ 2 → used < item_cap → l < 4 → BadItem s used t v l R.Sync
 
 -- what a payload with the tag t is judged to be
-pub data Judged (s : List ℕ) (used t v l : ℕ) : Step → Type 0 where
-  as_plain : (t ≡ 1 → ⊥) → (t ≡ 2 → ⊥) → (t ≡ 3 → ⊥) → used < item_cap → Judged s used t v l (S.Plain t v l)
-  as_sync : t ≡ 2 → used < item_cap → 4 ≤ l → Judged s used t v l (S.Open v l)
-  as_crc : t ≡ 3 → l ≡ 4 → v + l ≡ length s → Judged s used t v l (S.Close v)
-  as_bad : {why : Refusal} → BadItem s used t v l why → Judged s used t v l (S.Bad why)
+pub data Judged (s : List ℕ) (used t v l : ℕ) : Steps → Type 0 where
+  as_plain : (t ≡ 1 → ⊥) → (t ≡ 2 → ⊥) → (t ≡ 3 → ⊥) → used < item_cap → Judged s used t v l (plain t v l)
+  as_sync : t ≡ 2 → used < item_cap → 4 ≤ l → Judged s used t v l (opens v l)
+  as_crc : t ≡ 3 → l ≡ 4 → v + l ≡ length s → Judged s used t v l (closes v)
+  as_bad : {why : Refusal} → BadItem s used t v l why → Judged s used t v l (bad why)
 
 pub judged_of : (s : List ℕ) (used t v l : ℕ) → Judged s used t v l (judged s used t v l)
 unfolding judged
@@ -130,16 +130,16 @@ body_of parts mark = record { parts = parts; crc = mark }
 module _ (s : List ℕ) (grounds : Ground) where
   -- what the reader goes on with, item by item
   module _ (k at used : ℕ) (i : at < length s) where
-    turn_crc : (v : ℕ) → payload_at s at ≡ Whole 3 v 4 → v + 4 ≡ length s → big_at s v 4 ≡ crc_of (take v s)
+    turn_crc : (v : ℕ) → payload_at s at ≡ whole 3 v 4 → v + 4 ≡ length s → big_at s v 4 ≡ crc_of (take v s)
         → items_from (suc k) s grounds at used ≡ fine (body_of [] true)
     unfolding items_from item_at judged
     turn_crc v e z c = simp (lt-ltb _ _ i, e, eq-eqb _ _ z, eq-eqb _ _ c)
 
-    pub turn_plain : (t v l : ℕ) → payload_at s at ≡ Whole t v l → 3 < t → used < item_cap
+    pub turn_plain : (t v l : ℕ) → payload_at s at ≡ whole t v l → 3 < t → used < item_cap
         → items_from (suc k) s grounds at used ≡ and_then (items_from k s grounds (v + l) (used + 1)) (with (one (payload grounds at t v l)))
     turn_plain t v l e h u = items_turn s grounds at used k refl i (sym (seen_item s at used t v l (record { audio = h; there = e }) u))
 
-    pub turn_sync : (v l : ℕ) → payload_at s at ≡ Whole 2 v l → 4 ≤ l → used < item_cap
+    pub turn_sync : (v l : ℕ) → payload_at s at ≡ whole 2 v l → 4 ≤ l → used < item_cap
         → items_from (suc k) s grounds at used
         ≡ and_then (inside_of s grounds at v l used)
         (λ xs. and_then (items_from k s grounds (v + l) (used + 1 + length xs)) (with (many (sync_head s at v l (length xs)) xs)))
@@ -174,14 +174,14 @@ module _ (s : List ℕ) (grounds : Ground) where
     is : {parts : List Part} {mark : Bool} → body_of parts mark ≡ b → ItemsRead s grounds at used parts mark → ItemsRead s grounds at used b.parts b.crc
     is z r = subst (λ (c : Body). ItemsRead s grounds at used c.parts c.crc) z r
 
-    of_plain : (t v l : ℕ) → payload_at s at ≡ Whole t v l → 3 < t → used < item_cap → ItemsRead s grounds at used b.parts b.crc
+    of_plain : (t v l : ℕ) → payload_at s at ≡ whole t v l → 3 < t → used < item_cap → ItemsRead s grounds at used b.parts b.crc
     of_plain t v l e above room =
         let x = payload_within s at t v l e in
         let r = then_was (items_from k s grounds (v + l) (used + 1)) (with (one (payload grounds at t v l))) (sym (turn_plain k at used inside t v l e above room) ∙ h) in
         let w = r.2 in
         is (cc) (next_plain t v l e above room (rest (v + l) (used + 1) r.0 (omega arith) r.1))
 
-    of_sync : (v l : ℕ) → payload_at s at ≡ Whole 2 v l → 4 ≤ l → used < item_cap → ItemsRead s grounds at used b.parts b.crc
+    of_sync : (v l : ℕ) → payload_at s at ≡ whole 2 v l → 4 ≤ l → used < item_cap → ItemsRead s grounds at used b.parts b.crc
     of_sync v l e long room =
         let x = payload_within s at 2 v l e in
         let q = take (l - 4) (drop (v + 4) s) in
@@ -198,7 +198,7 @@ module _ (s : List ℕ) (grounds : Ground) where
         is z
         (next_sync {parts = r.0.parts} {mark = r.0.crc} v l ys e long room n.0 inner (rest (v + l) (used + 1 + length ys) r.0 (omega arith) r.1))
 
-    of_crc : (v : ℕ) → payload_at s at ≡ Whole 3 v 4 → v + 4 ≡ length s → ItemsRead s grounds at used b.parts b.crc
+    of_crc : (v : ℕ) → payload_at s at ≡ whole 3 v 4 → v + 4 ≡ length s → ItemsRead s grounds at used b.parts b.crc
     unfolding items_from item_at judged
     of_crc v e z =
         let a = lt-ltb _ _ inside in
@@ -207,18 +207,22 @@ module _ (s : List ℕ) (grounds : Ground) where
         (λ c. let i : fine (body_of [] true) ≡ fine b = simp (a, e, y, c) at h in is (cc) (closed v e z (eqb-true _ _ c)))
         (λ c. let i : refused R.Crc at ≡ fine b = simp (a, e, y, c) at h in absurd_eq (cc))
 
-    of_judged : (t v l : ℕ) (step : Step) → payload_at s at ≡ Whole t v l → judged s used t v l ≡ step → Judged s used t v l step
+    of_judged : (t v l : ℕ) (step : Steps) → payload_at s at ≡ whole t v l → judged s used t v l ≡ step → Judged s used t v l step
         → ItemsRead s grounds at used b.parts b.crc
     unfolding items_from item_at
     of_judged t v l step e g (as_plain n1 n2 n3 room) = of_plain t v l e (let x = payload_laid s at t v l bytes e in omega (arith, x.low, n1, n2, n3)) room
-    of_judged t v l step e g (as_sync is2 room long) = of_sync v l (e ∙ ap (λ (n : ℕ). Whole n v l) is2) long room
-    of_judged t v l step e g (as_crc is3 four ends) = of_crc v (e ∙ ap₂ (λ (m n : ℕ). Whole m v n) is3 four) (ap (λ (n : ℕ). v + n) (sym four) ∙ ends)
-    of_judged t v l step e g (as_bad {why} bad) = let i : refused why at ≡ fine b = simp (lt-ltb _ _ inside, e, g) at h in absurd_eq (cc)
+    of_judged t v l step e g (as_sync is2 room long) = of_sync v l (e ∙ ap (λ (n : ℕ). whole n v l) is2) long room
+    of_judged t v l step e g (as_crc is3 four ends) = of_crc v (e ∙ ap₂ (λ (m n : ℕ). whole m v n) is3 four) (ap (λ (n : ℕ). v + n) (sym four) ∙ ends)
+    of_judged t v l step e g (as_bad {why} wrong) = let i : refused why at ≡ fine b = simp (lt-ltb _ _ inside, e, g) at h in absurd_eq (cc)
 
     of_found : (f : Found) → payload_at s at ≡ f → ItemsRead s grounds at used b.parts b.crc
     unfolding items_from item_at
-    of_found (Wrong why) e = let i : refused why at ≡ fine b = simp (lt-ltb _ _ inside, e) at h in absurd_eq (cc)
-    of_found (Whole t v l) e = of_judged t v l (judged s used t v l) e refl (judged_of s used t v l)
+    of_found (Err why) e = let i : refused why at ≡ fine b = simp (lt-ltb _ _ inside, e) at h in absurd_eq (cc)
+    of_found (Ok x) e =
+        let t = x.tag in
+        let v = x.value.start in
+        let l = x.value.len in
+        of_judged t v l (judged s used t v l) e refl (judged_of s used t v l)
 
   pub items_of : (k at used : ℕ) (b : Body) → Bytes s → length s ≤ at + k → items_from k s grounds at used ≡ fine b → ItemsRead s grounds at used b.parts b.crc
   unfolding items_from

@@ -25,7 +25,6 @@ use Rattle.pack.specs.declared.Payload.{Payload}
 use Rattle.pack.specs.declared.Head.{Head}
 use Rattle.pack.specs.declared.Item.{Item}
 use Rattle.pack.specs.declared.Item.TheVariants as I
-use Rattle.pack.specs.declared.Slot.{Slot}
 use Rattle.pack.specs.Payloads.{name_from, name_of, Ground}
 use Rattle.pack.specs.Config.{Mapping, labels_of, places_of}
 use Rattle.pack.specs.Items.{Part, one, many, sync_head, count_of}
@@ -74,7 +73,7 @@ ItemLies s mapped (I.Inner x) = PayloadLies s mapped x
 ItemLies s mapped (I.Sync h) = (xs : List Payload) × HeadLies s h xs
 
 -- where the parts lie, each slot lies
-pub slots_lie : (s : List ℕ) (mapped : ℕ) (ps : List Part) → Each (PartLies s mapped) ps → Each (λ (w : Slot). ItemLies s mapped w.item) (slots ps)
+pub slots_lie : (s : List ℕ) (mapped : ℕ) (ps : List Part) → Each (PartLies s mapped) ps → Each (λ (w : Item). ItemLies s mapped w) (slots ps)
 slots_lie s mapped ps h = slots_each (ItemLies s mapped) ps (each_map items ps h)
   where
     items : (p : Part) → PartLies s mapped p → PartItems (ItemLies s mapped) p

@@ -14,15 +14,12 @@ use Rattle.runs.proofs.Cases.{split, absurd_eq}
 use Rattle.runs.proofs.Stands.{stands_past}
 use Rattle.refusals.specs.declared.Refusal.{Refusal}
 use Rattle.refusals.specs.declared.Refusal.TheVariants as R
-use Rattle.numbers.specs.declared.TagRead.{TagRead}
-use Rattle.numbers.specs.declared.TagRead.TheVariants as T
-use Rattle.numbers.specs.declared.LengthRead.{LengthRead}
-use Rattle.numbers.specs.declared.LengthRead.TheVariants as L
+use Rattle.numbers.specs.Reads.{Reads, read, malformed, cut}
+use Rattle.numbers.proofs.Same.{same_read}
 use Rattle.numbers.specs.Tags.{tag_at, tag_bytes}
 use Rattle.numbers.specs.Lengths.{length_at, form_bytes, reach}
 use Rattle.numbers.proofs.Tags.{tag_back, tag_next, tag_range, tag_canonical}
-use Rattle.pack.specs.declared.Found.TheVariants.{Whole, Wrong}
-use Rattle.pack.specs.Payloads.{value_found, tag_found, payload_at}
+use Rattle.pack.specs.Payloads.{value_found, tag_found, payload_at, whole, wrong}
 use Rattle.pack_layout.specs.Layout.{element}
 use Rattle.pack_layout.specs.Well.{FormFits}
 use Rattle.pack_layout.specs.Refused.{TagFits, NoLength, Lacks, NoElement, runs_out, bad_tag, bad_length}
@@ -46,7 +43,7 @@ tag_runs_out p at i c =
       is = sym (append_assoc (drop at p) last fb) ∙ ap (λ (l : List ℕ). l ++ fb) c.is;
     })
 
-value_runs_out : (p : List ℕ) (at t n : ℕ) → Bytes p → tag_at p at ≡ T.Tag t n → ValueLacks (drop n p) → NoElement (drop at p) R.Cut
+value_runs_out : (p : List ℕ) (at t n : ℕ) → Bytes p → tag_at p at ≡ read t n → ValueLacks (drop n p) → NoElement (drop at p) R.Cut
 value_runs_out p at t n b e w =
     let x = tag_next p at t n e in
     runs_out t w.form w.v (tag_range p at t n b e) w.fits
@@ -59,61 +56,61 @@ value_runs_out p at t n b e w =
     })
 
 -- an element that is refused is broken, for that reason
-pub element_broken : (p : List ℕ) (at : ℕ) (why : Refusal) → Bytes p → at < length p → payload_at p at ≡ Wrong why → NoElement (drop at p) why
+pub element_broken : (p : List ℕ) (at : ℕ) (why : Refusal) → Bytes p → at < length p → payload_at p at ≡ wrong why → NoElement (drop at p) why
 unfolding payload_at tag_found value_found
 element_broken p at why b i h = tagged (tag_at p at) refl h
   where
-    is : {r : Refusal} → Wrong r ≡ Wrong why → NoElement (drop at p) r → NoElement (drop at p) why
+    is : {r : Refusal} → wrong r ≡ wrong why → NoElement (drop at p) r → NoElement (drop at p) why
     is {r} z w = let y : r ≡ why = cc in subst (NoElement (drop at p)) y w
 
-    sized : (t n : ℕ) (r : LengthRead) → tag_at p at ≡ T.Tag t n → length_at p n ≡ r → value_found p t r ≡ Wrong why → NoElement (drop at p) why
-    sized t n L.Forbidden d e g = is g (bad_length t (drop n p) (tag_range p at t n b d) (tag_canonical p at t n b d).0 (length_bad p n e))
-    sized t n L.Cut d e g = is g (value_runs_out p at t n b d (length_cut p n b (tag_next p at t n d).1 e))
-    sized t n (L.Length l v) d e g =
+    sized : (t n : ℕ) (r : Reads) → tag_at p at ≡ read t n → length_at p n ≡ r → value_found p t r ≡ wrong why → NoElement (drop at p) why
+    sized t n malformed d e g = is g (bad_length t (drop n p) (tag_range p at t n b d) (tag_canonical p at t n b d).0 (length_bad p n e))
+    sized t n cut d e g = is g (value_runs_out p at t n b d (length_cut p n b (tag_next p at t n d).1 e))
+    sized t n (read l v) d e g =
         split (leb l (length p - v))
-        (λ q. let z : Whole t v l ≡ Wrong why = simp q at g in absurd_eq (cc))
+        (λ q. let z : whole t v l ≡ wrong why = simp q at g in absurd_eq (cc))
         (λ q. is (simp q at g) (value_runs_out p at t n b d (value_cut p n l v b e (leb-false _ _ q))))
 
-    tagged : (r : TagRead) → tag_at p at ≡ r → tag_found p r ≡ Wrong why → NoElement (drop at p) why
-    tagged (T.Tag t n) e g = sized t n (length_at p n) e refl g
-    tagged T.Bad e g = is g (bad_tag (tag_bad p at e))
-    tagged T.Cut e g = is g (tag_runs_out p at i (tag_cut_lem p at b i e))
+    tagged : (r : Reads) → tag_at p at ≡ r → tag_found p r ≡ wrong why → NoElement (drop at p) why
+    tagged (read t n) e g = sized t n (length_at p n) e refl g
+    tagged malformed e g = is g (bad_tag (tag_bad p at e))
+    tagged cut e g = is g (tag_runs_out p at i (tag_cut_lem p at b i e))
 
--- what is found where a tag is Bad or Cut, and where its length is Forbidden or bytes lack after it
+-- what is found where a tag is malformed or cut, and where its length is malformed or bytes lack after it
 module _ (p : List ℕ) (at : ℕ) where
-  found_bad : tag_at p at ≡ T.Bad → payload_at p at ≡ Wrong R.Tag
+  found_bad : tag_at p at ≡ malformed → payload_at p at ≡ wrong R.Tag
   unfolding payload_at tag_found
   found_bad a = simp a
 
-  found_cut : tag_at p at ≡ T.Cut → payload_at p at ≡ Wrong R.Cut
+  found_cut : tag_at p at ≡ cut → payload_at p at ≡ wrong R.Cut
   unfolding payload_at tag_found
   found_cut a = simp a
 
-  found_forbidden : (t n : ℕ) → tag_at p at ≡ T.Tag t n → length_at p n ≡ L.Forbidden → payload_at p at ≡ Wrong R.Length
+  found_forbidden : (t n : ℕ) → tag_at p at ≡ read t n → length_at p n ≡ malformed → payload_at p at ≡ wrong R.Length
   unfolding payload_at tag_found value_found
   found_forbidden t n a e = simp (a, e)
 
-  found_unread : (t n : ℕ) → tag_at p at ≡ T.Tag t n → Unread p n → payload_at p at ≡ Wrong R.Cut
+  found_unread : (t n : ℕ) → tag_at p at ≡ read t n → Unread p n → payload_at p at ≡ wrong R.Cut
   unfolding payload_at tag_found value_found
   found_unread t n a (no_length e) = simp (a, e)
   found_unread t n a (no_value l v e h) = simp (a, e, lt-leb _ _ h)
 
--- the tag of what lacks bytes: it is Cut itself, or it is there and the rest lacks them
+-- the tag of what lacks bytes: it is cut itself, or it is there and the rest lacks them
 pub data TagLacks (p : List ℕ) (at t : ℕ) (more rest : List ℕ) : Type 0 where
-  tag_cut : tag_at p at ≡ T.Cut → TagLacks p at t more rest
-  after_tag : (n : ℕ) → tag_at p at ≡ T.Tag t n → n ≤ length p → drop n p ++ more ≡ rest → TagLacks p at t more rest
+  tag_cut : tag_at p at ≡ cut → TagLacks p at t more rest
+  after_tag : (n : ℕ) → tag_at p at ≡ read t n → n ≤ length p → drop n p ++ more ≡ rest → TagLacks p at t more rest
 
 pub lacks_tag : (p : List ℕ) (at t : ℕ) (more rest : List ℕ) → TagFits t → at ≤ length p → drop at p ++ more ≡ tag_bytes t ++ rest → TagLacks p at t more rest
 lacks_tag p at t more rest f i e = told (tag_at p at) refl
   where
-    told : (r : TagRead) → tag_at p at ≡ r → TagLacks p at t more rest
-    told T.Cut a = tag_cut a
-    told T.Bad a = absurd (tag_bad p at a t more rest f e)
-    told (T.Tag u n) a =
-        let l = tag_longer p more at (λ c. let z : T.Tag u n ≡ T.Cut = sym a ∙ c in absurd_eq (cc)) in
-        let z : T.Tag u n ≡ T.Tag t (at + length (tag_bytes t)) = sym a ∙ sym l ∙ tag_stands p more at t rest i f e in
-        let x : n ≡ at + length (tag_bytes t) = cc in
-        let y : T.Tag u n ≡ T.Tag t n = z ∙ ap (T.Tag t) (sym x) in
+    told : (r : Reads) → tag_at p at ≡ r → TagLacks p at t more rest
+    told cut a = tag_cut a
+    told malformed a = absurd (tag_bad p at a t more rest f e)
+    told (read u n) a =
+        let l = tag_longer p more at (λ c. let z : read u n ≡ cut = sym a ∙ c in absurd_eq (cc)) in
+        let z : read u n ≡ read t (at + length (tag_bytes t)) = sym a ∙ sym l ∙ tag_stands p more at t rest i f e in
+        let x : n ≡ at + length (tag_bytes t) = (same_read refl z).1 in
+        let y : read u n ≡ read t n = z ∙ ap (read t) (sym x) in
         let k = (tag_next p at u n a).1 in
         let g : drop at (p ++ more) ≡ tag_bytes t ++ rest = drop-append-le at p more i ∙ e in
         after_tag n (a ∙ y) k
@@ -121,13 +118,13 @@ lacks_tag p at t more rest f i e = told (tag_at p at) refl
 
 -- an element that lacks bytes is refused as CUT
 run_out : (p : List ℕ) (at t form : ℕ) (v : List ℕ) → FormFits form (length v) → (w : Lacks (drop at p) (element t form v))
-    → TagLacks p at t w.more (form_bytes form (length v) ++ v) → payload_at p at ≡ Wrong R.Cut
+    → TagLacks p at t w.more (form_bytes form (length v) ++ v) → payload_at p at ≡ wrong R.Cut
 run_out p at t form v f w (tag_cut a) = found_cut p at a
 run_out p at t form v f w (after_tag n a k e) =
     found_unread p at t n a (lacks_value p n k (record { form = form; v = v; more = w.more; fits = f; missing = w.missing; is = e }))
 
 -- an element that is broken is refused, for that reason
-pub broken_element : (p : List ℕ) (at : ℕ) (why : Refusal) → Bytes p → NoElement (drop at p) why → (at < length p) × (payload_at p at ≡ Wrong why)
+pub broken_element : (p : List ℕ) (at : ℕ) (why : Refusal) → Bytes p → NoElement (drop at p) why → (at < length p) × (payload_at p at ≡ wrong why)
 broken_element p at R.Cut b (runs_out t form v g f w) =
     let i : at < length p = omega (arith, length-drop at p, w.some) in
     (i, run_out p at t form v f w (lacks_tag p at t w.more (form_bytes form (length v) ++ v) g (omega arith) w.is))
@@ -168,8 +165,8 @@ pub record EntryLacks (z : List ℕ) : Type 0 where
   pub long : length label ≡ 16
   pub lacks : Lacks z (tag_bytes t ++ label)
 
--- a mapping whose tag is Cut, and one whose label runs past the end
-pub tag_cut_lacks : (c : List ℕ) (at : ℕ) → Bytes c → at < length c → tag_at c at ≡ T.Cut → EntryLacks (drop at c)
+-- a mapping whose tag is cut, and one whose label runs past the end
+pub tag_cut_lacks : (c : List ℕ) (at : ℕ) → Bytes c → at < length c → tag_at c at ≡ cut → EntryLacks (drop at c)
 tag_cut_lacks c at b i h =
     let r = tag_cut_lem c at b i h in
     record {
@@ -185,7 +182,7 @@ tag_cut_lacks c at b i h =
       };
     }
 
-pub label_cut_lacks : (c : List ℕ) (at t n : ℕ) → Bytes c → tag_at c at ≡ T.Tag t n → length c - n < 16 → EntryLacks (drop at c)
+pub label_cut_lacks : (c : List ℕ) (at t n : ℕ) → Bytes c → tag_at c at ≡ read t n → length c - n < 16 → EntryLacks (drop at c)
 label_cut_lacks c at t n b e h =
     let more = zeros (16 - (length c - n)) in
     let size = length_zeros (16 - (length c - n)) in
@@ -207,17 +204,17 @@ label_cut_lacks c at t n b e h =
 pub record CutLabel (c : List ℕ) (at : ℕ) : Type 0 where
   pub t : ℕ
   pub n : ℕ
-  pub tag : tag_at c at ≡ T.Tag t n
+  pub tag : tag_at c at ≡ read t n
   pub short : length c - n < 16
 
 -- a mapping that lacks bytes has one of the two
-cut_at : (c : List ℕ) (at : ℕ) (w : EntryLacks (drop at c)) → TagLacks c at w.t w.lacks.more w.label → (tag_at c at ≡ T.Cut) ⊎ CutLabel c at
+cut_at : (c : List ℕ) (at : ℕ) (w : EntryLacks (drop at c)) → TagLacks c at w.t w.lacks.more w.label → (tag_at c at ≡ cut) ⊎ CutLabel c at
 cut_at c at w (tag_cut a) = inl a
 cut_at c at w (after_tag n a k e) =
     let size : length c - n + length w.lacks.more ≡ 16 =
     sym (length-append (drop n c) w.lacks.more ∙ ap (λ (m : ℕ). m + length w.lacks.more) (length-drop n c)) ∙ ap length e ∙ w.long in
     inr (record { t = w.t; n = n; tag = a; short = omega (arith, w.lacks.missing) })
 
-pub lacks_entry : (c : List ℕ) (at : ℕ) → Bytes c → EntryLacks (drop at c) → (tag_at c at ≡ T.Cut) ⊎ CutLabel c at
+pub lacks_entry : (c : List ℕ) (at : ℕ) → Bytes c → EntryLacks (drop at c) → (tag_at c at ≡ cut) ⊎ CutLabel c at
 lacks_entry c at b w =
     cut_at c at w (lacks_tag c at w.t w.lacks.more w.label w.tagged (omega (arith, length-drop at c, w.lacks.some)) w.lacks.is)

@@ -1,4 +1,4 @@
--- What breaks a length, in the words of the layout: one that is Forbidden stays so whatever follows, and one that is Cut, or whose value is, lacks bytes.
+-- What breaks a length, in the words of the layout: one that is malformed stays so whatever follows, and one that is cut, or whose value is, lacks bytes.
 use mathlib.Core.Path.{◌≡◌, refl, sym, ap, ap₂, ◌∙◌}
 use mathlib.Core.List.{List, [], ◌∷◌, ◌++◌, append_assoc, append-nil}
 use Prim.Native.Nat.{ℕ, zero, suc, ◌+◌, ◌-◌, ◌<◌, ◌≤◌}
@@ -10,8 +10,8 @@ use borrow.Author.Tests.{ltb-true, ltb-false}
 use Rattle.runs.specs.Digits.{number, Bytes}
 use Rattle.runs.proofs.Cases.{split, absurd_eq}
 use Rattle.runs.proofs.Below.{below_none, below_cons, below_append}
-use Rattle.numbers.specs.declared.LengthRead.{LengthRead}
-use Rattle.numbers.specs.declared.LengthRead.TheVariants as L
+use Rattle.numbers.specs.Reads.{Reads, read, malformed, cut}
+use Rattle.numbers.proofs.Same.{same_read}
 use Rattle.numbers.specs.Big.{big_at}
 use Rattle.numbers.specs.Lengths.{longest, long_at, length_at, form_bytes}
 use Rattle.numbers.proofs.Lengths.{begins_short, begins_long, long_whole, form_back, form_sound, length_next}
@@ -20,15 +20,15 @@ use Rattle.pack_layout.specs.Refused.{NoLength}
 use Rattle.pack_layout.proofs.BrokenTags.{longer}
 
 -- the bytes of a long form that are there, and those that are not
-long_there : (s : List ℕ) (at k : ℕ) → (long_at s at k ≡ L.Cut → ⊥) → at + k ≤ length s
+long_there : (s : List ℕ) (at k : ℕ) → (long_at s at k ≡ cut → ⊥) → at + k ≤ length s
 unfolding long_at
 long_there s at k h = split (ltb (length s) (at + k)) (λ e. absurd (h (simp e))) (λ e. ltb-false _ _ e)
 
-long_missing : (s : List ℕ) (at k : ℕ) → long_at s at k ≡ L.Cut → length s < at + k
+long_missing : (s : List ℕ) (at k : ℕ) → long_at s at k ≡ cut → length s < at + k
 unfolding long_at
 long_missing s at k h =
     split (ltb (length s) (at + k)) (λ e. ltb-true _ _ e)
-    (λ e. let z : L.Length (big_at s at k) (at + k) ≡ L.Cut = simp e at h in absurd_eq (cc))
+    (λ e. let z : read (big_at s at k) (at + k) ≡ cut = simp e at h in absurd_eq (cc))
 
 -- more bytes change nothing where none was missing
 module _ (s more : List ℕ) where
@@ -43,7 +43,7 @@ module _ (s more : List ℕ) where
       long_whole (s ++ more) at k (big_at s at k) (omega (arith, length-append s more)) (big_longer at k h)
       ∙ sym (long_whole s at k (big_at s at k) h refl)
 
-  length_longer : (at : ℕ) → (length_at s at ≡ L.Cut → ⊥) → length_at (s ++ more) at ≡ length_at s at
+  length_longer : (at : ℕ) → (length_at s at ≡ cut → ⊥) → length_at (s ++ more) at ≡ length_at s at
   unfolding length_at
   length_longer at h =
       split (ltb at (length s))
@@ -60,21 +60,21 @@ module _ (s more : List ℕ) where
 
   -- a length that stands there once they follow
   length_stands : (at form n : ℕ) (rest : List ℕ) → at ≤ length s → FormFits form n → drop at s ++ more ≡ form_bytes form n ++ rest
-      → length_at (s ++ more) at ≡ L.Length n (at + length (form_bytes form n))
+      → length_at (s ++ more) at ≡ read n (at + length (form_bytes form n))
   length_stands at form n rest i f e = form_back (s ++ more) at form n rest (drop-append-le at s more i ∙ e) f.0 f.1
 
--- where no byte stands, a length is Cut
-length_in : (s : List ℕ) (at : ℕ) → (length_at s at ≡ L.Cut → ⊥) → at < length s
+-- where no byte stands, a length is cut
+length_in : (s : List ℕ) (at : ℕ) → (length_at s at ≡ cut → ⊥) → at < length s
 unfolding length_at
 length_in s at h = split (ltb at (length s)) (λ e. ltb-true _ _ e) (λ e. absurd (h (simp e)))
 
--- a Forbidden length is none, whatever may follow it
-pub length_bad : (s : List ℕ) (at : ℕ) → length_at s at ≡ L.Forbidden → NoLength (drop at s)
+-- a malformed length is none, whatever may follow it
+pub length_bad : (s : List ℕ) (at : ℕ) → length_at s at ≡ malformed → NoLength (drop at s)
 length_bad s at h form n more rest f e =
-    let whole : length_at s at ≡ L.Cut → ⊥ = λ c. let z : L.Forbidden ≡ L.Cut = sym h ∙ c in absurd_eq (cc) in
+    let whole : length_at s at ≡ cut → ⊥ = λ c. let z : malformed ≡ cut = sym h ∙ c in absurd_eq (cc) in
     let i = length_in s at whole in
     let l = length_longer s more at whole in
-    let z : L.Forbidden ≡ L.Length n (at + length (form_bytes form n)) = sym h ∙ sym l ∙ length_stands s more at form n rest (omega arith) f e in
+    let z : malformed ≡ read n (at + length (form_bytes form n)) = sym h ∙ sym l ∙ length_stands s more at form n rest (omega arith) f e in
     absurd_eq (cc)
 
 -- z lacks some bytes to be a length in an accepted form and its value
@@ -97,12 +97,12 @@ zeros_below : (m : ℕ) → Bytes (zeros m)
 zeros_below zero = below_none 256 (omega arith)
 zeros_below (suc m) = below_cons 256 0 (zeros m) (omega arith) (zeros_below m)
 
--- so many zeros make a length, up to their end, of one that is Cut
+-- so many zeros make a length, up to their end, of one that is cut
 record Filled (s : List ℕ) (at : ℕ) : Type 0 where
   m : ℕ
   l : ℕ
   some : 0 < m
-  is : length_at (s ++ zeros m) at ≡ L.Length l (length s + m)
+  is : length_at (s ++ zeros m) at ≡ read l (length s + m)
 
 -- by the count of its length bytes, and where not even its first byte is there
 long_filled : (s : List ℕ) (at k : ℕ) → at < length s → get_or s at 0 ≡ 128 + k → 0 < k → k ≤ longest → length s < at + 1 + k → Filled s at
@@ -118,7 +118,7 @@ long_filled s at k i x p q h =
       l = big_at w (at + 1) k;
       some = omega arith;
       is = begins_long w at (omega arith) (omega arith) (omega arith) ∙ ap (long_at w (at + 1)) y
-          ∙ long_whole w (at + 1) k (big_at w (at + 1) k) (omega arith) refl ∙ ap (L.Length (big_at w (at + 1) k)) (omega arith);
+          ∙ long_whole w (at + 1) k (big_at w (at + 1) k) (omega arith) refl ∙ ap (read (big_at w (at + 1) k)) (omega arith);
     }
 
 none_filled : (s : List ℕ) (at : ℕ) → length s ≡ at → Filled s at
@@ -128,25 +128,25 @@ none_filled s at z =
       m = 1;
       l = 0;
       some = omega arith;
-      is = begins_short (s ++ (0 ∷ [])) at (omega (arith, length-append s (0 ∷ []))) (omega arith) ∙ ap₂ (λ (x n : ℕ). L.Length x (n + 1)) g (sym z);
+      is = begins_short (s ++ (0 ∷ [])) at (omega (arith, length-append s (0 ∷ []))) (omega arith) ∙ ap₂ (λ (x n : ℕ). read x (n + 1)) g (sym z);
     }
 
-length_filled : (s : List ℕ) (at : ℕ) → at ≤ length s → length_at s at ≡ L.Cut → Filled s at
+length_filled : (s : List ℕ) (at : ℕ) → at ≤ length s → length_at s at ≡ cut → Filled s at
 unfolding length_at
 length_filled s at i h =
     split (ltb at (length s))
     (λ e. split (ltb (get_or s at 0) 128)
-    (λ f. let z : L.Length (get_or s at 0) (at + 1) ≡ L.Cut = simp (e, f) at h in absurd_eq (cc))
+    (λ f. let z : read (get_or s at 0) (at + 1) ≡ cut = simp (e, f) at h in absurd_eq (cc))
     (λ f. split (ltb (get_or s at 0) 129)
-    (λ d. let z : L.Forbidden ≡ L.Cut = simp (e, f, d) at h in absurd_eq (cc))
+    (λ d. let z : malformed ≡ cut = simp (e, f, d) at h in absurd_eq (cc))
     (λ d. split (ltb (128 + longest) (get_or s at 0))
-    (λ c. let z : L.Forbidden ≡ L.Cut = simp (e, f, d, c) at h in absurd_eq (cc))
+    (λ c. let z : malformed ≡ cut = simp (e, f, d, c) at h in absurd_eq (cc))
     (λ c. long_filled s at (get_or s at 0 - 128) (ltb-true _ _ e) (omega (arith, ltb-false)) (omega (arith, ltb-false)) (omega (arith, ltb-false))
     (long_missing s (at + 1) (get_or s at 0 - 128) (simp (e, f, d, c) at h))))))
     (λ e. none_filled s at (omega (arith, ltb-false)))
 
--- where a length is Cut, and where a value runs past the end, bytes lack
-pub length_cut : (s : List ℕ) (at : ℕ) → Bytes s → at ≤ length s → length_at s at ≡ L.Cut → ValueLacks (drop at s)
+-- where a length is cut, and where a value runs past the end, bytes lack
+pub length_cut : (s : List ℕ) (at : ℕ) → Bytes s → at ≤ length s → length_at s at ≡ cut → ValueLacks (drop at s)
 length_cut s at b i h =
     let r = length_filled s at i h in
     let end = zeros r.m in
@@ -168,7 +168,7 @@ length_cut s at b i h =
       is = sym (append_assoc (drop at s) end v) ∙ ap (λ (y : List ℕ). y ++ v) (e ∙ ap (form_bytes f.form) (sym long));
     }
 
-pub value_cut : (s : List ℕ) (at l n : ℕ) → Bytes s → length_at s at ≡ L.Length l n → length s - n < l → ValueLacks (drop at s)
+pub value_cut : (s : List ℕ) (at l n : ℕ) → Bytes s → length_at s at ≡ read l n → length s - n < l → ValueLacks (drop at s)
 value_cut s at l n b h g =
     let f = form_sound s at l n b h in
     let m = l - (length s - n) in
@@ -185,34 +185,35 @@ value_cut s at l n b h g =
       is = ap (λ (y : List ℕ). y ++ end) f.stands ∙ append_assoc fb (drop n s) end ∙ ap (λ (k : ℕ). form_bytes f.form k ++ v) (sym long);
     }
 
--- what begins no length, whatever may follow it, is a Forbidden one
-pub bad_length_lem : (s : List ℕ) (at : ℕ) → Bytes s → at ≤ length s → NoLength (drop at s) → length_at s at ≡ L.Forbidden
+-- what begins no length, whatever may follow it, is malformed
+pub bad_length_lem : (s : List ℕ) (at : ℕ) → Bytes s → at ≤ length s → NoLength (drop at s) → length_at s at ≡ malformed
 bad_length_lem s at b i h = told (length_at s at) refl
   where
-    told : (r : LengthRead) → length_at s at ≡ r → length_at s at ≡ L.Forbidden
-    told L.Forbidden e = e
-    told L.Cut e = let w = length_cut s at b i e in absurd (h w.form (length w.v) w.more w.v w.fits w.is)
-    told (L.Length l n) e =
+    told : (r : Reads) → length_at s at ≡ r → length_at s at ≡ malformed
+    told malformed e = e
+    told cut e = let w = length_cut s at b i e in absurd (h w.form (length w.v) w.more w.v w.fits w.is)
+    told (read l n) e =
         let f = form_sound s at l n b e in absurd (h f.form l [] (drop n s) (f.most, f.holds) (append-nil (drop at s) ∙ f.stands))
 
 -- what is read where a length and its value lack bytes
 pub data Unread (s : List ℕ) (at : ℕ) : Type 0 where
-  no_length : length_at s at ≡ L.Cut → Unread s at
-  no_value : (l n : ℕ) → length_at s at ≡ L.Length l n → length s - n < l → Unread s at
+  no_length : length_at s at ≡ cut → Unread s at
+  no_value : (l n : ℕ) → length_at s at ≡ read l n → length s - n < l → Unread s at
 
 pub lacks_value : (s : List ℕ) (at : ℕ) → at ≤ length s → ValueLacks (drop at s) → Unread s at
 lacks_value s at i w = told (length_at s at) refl
   where
-    told : (r : LengthRead) → length_at s at ≡ r → Unread s at
-    told L.Cut e = no_length e
-    told L.Forbidden e = absurd (length_bad s at e w.form (length w.v) w.more w.v w.fits w.is)
-    told (L.Length l n) e =
-        let x = length_longer s w.more at (λ c. let z : L.Length l n ≡ L.Cut = sym e ∙ c in absurd_eq (cc)) in
+    told : (r : Reads) → length_at s at ≡ r → Unread s at
+    told cut e = no_length e
+    told malformed e = absurd (length_bad s at e w.form (length w.v) w.more w.v w.fits w.is)
+    told (read l n) e =
+        let x = length_longer s w.more at (λ c. let z : read l n ≡ cut = sym e ∙ c in absurd_eq (cc)) in
         let fb = form_bytes w.form (length w.v) in
-        let y : L.Length l n ≡ L.Length (length w.v) (at + length fb) =
+        let y : read l n ≡ read (length w.v) (at + length fb) =
         sym e ∙ sym x ∙ length_stands s w.more at w.form (length w.v) w.v i w.fits w.is in
-        let a : l ≡ length w.v = cc in
-        let c : n ≡ at + length fb = cc in
+        let q = same_read refl y in
+        let a : l ≡ length w.v = q.0 in
+        let c : n ≡ at + length fb = q.1 in
         let k = length_next s at l n e in
         let size : length s - at + length w.more ≡ length fb + length w.v =
         sym (length-append (drop at s) w.more ∙ ap (λ (j : ℕ). j + length w.more) (length-drop at s)) ∙ ap length w.is ∙ length-append fb w.v in

@@ -15,8 +15,7 @@ use Rattle.runs.proofs.Same.{same_refl, same_true, same_false}
 use Rattle.refusals.specs.declared.Refusal.{Refusal}
 use Rattle.refusals.specs.declared.Refusal.TheVariants as R
 use Rattle.refusals.specs.Outcomes.{Outcome, fine, refused}
-use Rattle.numbers.specs.declared.LengthRead.{LengthRead}
-use Rattle.numbers.specs.declared.LengthRead.TheVariants as L
+use Rattle.numbers.specs.Reads.{Reads, read, malformed, cut}
 use Rattle.numbers.specs.Lengths.{length_at, form_bytes}
 use Rattle.numbers.proofs.Lengths.{form_back, form_sound}
 use Rattle.pack.specs.Fixed.{key, pack_cap}
@@ -47,7 +46,7 @@ runs_out_lem s k w =
       is = ap (λ (l : List ℕ). l ++ w.more) (after_key s k) ∙ append_assoc key (drop 16 s) w.more ∙ ap (λ (l : List ℕ). key ++ l) w.is;
     })
 
-trails : (s : List ℕ) (l n : ℕ) → Bytes s → Keyed s → length_at s 16 ≡ L.Length l n → l < length s - n → Refused s R.Trail 0
+trails : (s : List ℕ) (l n : ℕ) → Bytes s → Keyed s → length_at s 16 ≡ read l n → l < length s - n → Refused s R.Trail 0
 trails s l n b k e h =
     let f = form_sound s 16 l n b e in
     let d = drop n s in
@@ -76,13 +75,13 @@ start_refused s why place b h =
         let y : p ≡ place = cc in
         subst (Refused s why) y (subst (λ (q : Refusal). Refused s q p) x w)
 
-    sized : (r : LengthRead) → length_at s 16 ≡ r → Keyed s → ltb pack_cap (length s) ≡ false → ltb (length s) 16 ≡ false → same (take 16 s) key ≡ true
+    sized : (r : Reads) → length_at s 16 ≡ r → Keyed s → ltb pack_cap (length s) ≡ false → ltb (length s) 16 ≡ false → same (take 16 s) key ≡ true
         → Refused s why place
-    sized L.Forbidden e q a c k =
+    sized malformed e q a c k =
         is (simp (a, c, k, e) at h) (pack_bad_length q.small (drop 16 s) (after_key s q) (length_bad s 16 e))
-    sized L.Cut e q a c k =
+    sized cut e q a c k =
         is (simp (a, c, k, e) at h) (runs_out_lem s q (length_cut s 16 b q.long e))
-    sized (L.Length l n) e q a c k =
+    sized (read l n) e q a c k =
         split (ltb (length s - n) l)
         (λ d. is (simp (a, c, k, e, d) at h) (runs_out_lem s q (value_cut s 16 l n b e (ltb-true _ _ d))))
         (λ d. split (ltb l (length s - n))
@@ -91,7 +90,7 @@ start_refused s why place b h =
 
 -- what is answered of a pack that begins with the key
 module _ (s : List ℕ) (k : Keyed s) where
-  start_forbidden : length_at s 16 ≡ L.Forbidden → value_start s ≡ refused R.Length 16
+  start_forbidden : length_at s 16 ≡ malformed → value_start s ≡ refused R.Length 16
   unfolding value_start
   start_forbidden e =
       let a = k.small in
@@ -109,7 +108,7 @@ module _ (s : List ℕ) (k : Keyed s) where
       let b = k.long in
       simp (le-ltb _ _ a, le-ltb _ _ b, k.begins, same_refl, e, lt-ltb _ _ h)
 
-  start_trails : (l n : ℕ) → length_at s 16 ≡ L.Length l n → l < length s - n → value_start s ≡ refused R.Trail 0
+  start_trails : (l n : ℕ) → length_at s 16 ≡ read l n → l < length s - n → value_start s ≡ refused R.Trail 0
   unfolding value_start
   start_trails l n e h =
       let a = k.small in

@@ -12,16 +12,15 @@ use Rattle.runs.specs.Digits.{digits, Bytes}
 use Rattle.runs.specs.Same.{among, listed}
 use Rattle.runs.proofs.Digits.{length_digits}
 use Rattle.runs.proofs.Below.{below_take}
-use Rattle.numbers.specs.declared.TagRead.TheVariants as T
+use Rattle.numbers.specs.Reads.{read}
 use Rattle.numbers.specs.Tags.{tag_at, tag_bytes}
 use Rattle.numbers.specs.Lengths.{longest, form_bytes}
 use Rattle.numbers.specs.Big.{big_at}
 use Rattle.numbers.proofs.Tags.{tag_range, tag_canonical}
 use Rattle.numbers.proofs.Big.{big_canonical, big_lt}
 use Rattle.crc.specs.Crc.{crc_of}
-use Rattle.pack.specs.declared.Found.TheVariants.{Whole}
+use Rattle.pack.specs.Payloads.{payload_at, Ground, whole}
 use Rattle.pack.specs.declared.Payload.{Payload}
-use Rattle.pack.specs.Payloads.{payload_at, Ground}
 use Rattle.pack.specs.Config.{Mapping, tags_of, labels_of, clashes}
 use Rattle.pack.specs.Items.{Part, count_of}
 use Rattle.pack.proofs.Payloads.{payload_within}
@@ -41,7 +40,7 @@ pub record ElementDescribed (q : List ℕ) (at next : ℕ) : Type 0 where
   pub well : WellElement one
   pub stands : drop at q ≡ element one.tag one.form one.value ++ drop next q
 
-pub element_described : (q : List ℕ) (at t v l : ℕ) → Bytes q → payload_at q at ≡ Whole t v l → 3 < t → ElementDescribed q at (v + l)
+pub element_described : (q : List ℕ) (at t v l : ℕ) → Bytes q → payload_at q at ≡ whole t v l → 3 < t → ElementDescribed q at (v + l)
 element_described q at t v l b e h =
     let d = payload_laid q at t v l b e in
     record {
@@ -98,7 +97,7 @@ pub record ChunksDescribed (s : List ℕ) (at n : ℕ) : Type 0 where
   pub count : chunks_count chunks ≡ n
 
 module _ (s : List ℕ) (b : Bytes s) where
-  crc_described : (at v : ℕ) → payload_at s at ≡ Whole 3 v 4 → v + 4 ≡ length s → big_at s v 4 ≡ crc_of (take v s) → ChunksDescribed s at 0
+  crc_described : (at v : ℕ) → payload_at s at ≡ whole 3 v 4 → v + 4 ≡ length s → big_at s v 4 ≡ crc_of (take v s) → ChunksDescribed s at 0
   unfolding chunks_bytes chunks_count
   crc_described at v e z c =
       let d = payload_laid s at 3 v 4 b e in
@@ -129,7 +128,7 @@ module _ (s : List ℕ) (b : Bytes s) where
       ∙ ap (λ (y : List ℕ). digits 256 2 (big_at s (v + 2) 2) ++ y) (ap₂ (λ (m n : ℕ). take m (drop n s)) x (add_assoc v 2 2)))
 
   -- a Sync that is read
-  pub sync_described : {grounds : Ground} {base used : ℕ} {ps : List Payload} (at v l : ℕ) → payload_at s at ≡ Whole 2 v l → 4 ≤ l → 0 < length ps
+  pub sync_described : {grounds : Ground} {base used : ℕ} {ps : List Payload} (at v l : ℕ) → payload_at s at ≡ whole 2 v l → 4 ≤ l → 0 < length ps
       → InnersRead (take (l - 4) (drop (v + 4) s)) grounds base 0 used ps → SyncDescribed s at (v + l) (length ps)
   sync_described at v l e h n inner =
       let d = payload_laid s at 2 v l b e in
@@ -196,7 +195,7 @@ module _ (s : List ℕ) (b : Bytes s) where
       }
 
 -- the mapping that stands at `at` of c
-pub entry_stands : (c : List ℕ) (at t n : ℕ) → Bytes c → tag_at c at ≡ T.Tag t n → drop at c ≡ tag_bytes t ++ (take 16 (drop n c) ++ drop (n + 16) c)
+pub entry_stands : (c : List ℕ) (at t n : ℕ) → Bytes c → tag_at c at ≡ read t n → drop at c ≡ tag_bytes t ++ (take 16 (drop n c) ++ drop (n + 16) c)
 entry_stands c at t n b e =
     (tag_canonical c at t n b e).0
     ∙ ap (λ (x : List ℕ). tag_bytes t ++ x) (sym (take-append-drop 16 (drop n c)) ∙ ap (λ (x : List ℕ). take 16 (drop n c) ++ x) (drop-drop 16 n c))
@@ -209,7 +208,7 @@ entries_stand {c} b (next_mapped {at = at} {more = more} t n few e room apart r)
     entry_stands c at t n b e ∙ ap (λ (x : List ℕ). tag_bytes t ++ (take 16 (drop n c) ++ x)) (entries_stand b r)
 
 -- a mapping that is read after well-formed ones is well-formed with them
-pub entry_well : (c : List ℕ) (at t n : ℕ) (seen : List Mapping) → Bytes c → tag_at c at ≡ T.Tag t n → n + 16 ≤ length c
+pub entry_well : (c : List ℕ) (at t n : ℕ) (seen : List Mapping) → Bytes c → tag_at c at ≡ read t n → n + 16 ≤ length c
     → clashes (tags_of seen) (labels_of seen) t (take 16 (drop n c)) ≡ false → WellEntries (map entry_of seen)
     → WellEntries (map entry_of (seen ++ (mapping_of c t n ∷ [])))
 entry_well c at t n seen b e room apart w =

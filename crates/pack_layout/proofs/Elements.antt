@@ -8,14 +8,12 @@ use lib.Seq.{length-take-le, drop-drop}
 use borrow.Author.Tests.{le-leb}
 use Rattle.runs.specs.Digits.{Bytes}
 use Rattle.runs.proofs.Stands.{stands_past}
-use Rattle.numbers.specs.declared.TagRead.TheVariants as T
-use Rattle.numbers.specs.declared.LengthRead.TheVariants as L
+use Rattle.numbers.specs.Reads.{read}
 use Rattle.numbers.specs.Tags.{tag_at, tag_bytes}
 use Rattle.numbers.specs.Lengths.{length_at, form_bytes}
 use Rattle.numbers.proofs.Tags.{tag_back, tag_next, tag_range, tag_canonical}
 use Rattle.numbers.proofs.Lengths.{form_back, form_sound, length_next}
-use Rattle.pack.specs.declared.Found.TheVariants.{Whole}
-use Rattle.pack.specs.Payloads.{value_found, tag_found, payload_at}
+use Rattle.pack.specs.Payloads.{value_found, tag_found, payload_at, whole}
 use Rattle.pack.proofs.Payloads.{payload_parsed, payload_within}
 use Rattle.pack_layout.specs.Layout.{element}
 use Rattle.pack_layout.specs.Well.{FormFits}
@@ -24,7 +22,7 @@ use Rattle.pack_layout.specs.Refused.{Has}
 -- The value of an element with the tag t that stands at `at` of p, before `rest`: it is found from `from` on.
 pub record Stands (p : List ℕ) (at t : ℕ) (value rest : List ℕ) : Type 0 where
   pub from : ℕ
-  pub found : payload_at p at ≡ Whole t from (length value)
+  pub found : payload_at p at ≡ whole t from (length value)
   pub stands : drop from p ≡ value ++ rest
   pub later : at < from
   pub ends : from + length value ≤ length p
@@ -35,9 +33,9 @@ pub begins_within : {p : List ℕ} {at t : ℕ} {value rest : List ℕ} → Stan
 begins_within r = omega (arith, r.later, r.ends)
 
 -- what is found where a tag, a length and enough bytes stand
-whole : (p : List ℕ) (at t n l v : ℕ) → tag_at p at ≡ T.Tag t n → length_at p n ≡ L.Length l v → l ≤ length p - v → payload_at p at ≡ Whole t v l
+whole_found : (p : List ℕ) (at t n l v : ℕ) → tag_at p at ≡ read t n → length_at p n ≡ read l v → l ≤ length p - v → payload_at p at ≡ whole t v l
 unfolding payload_at tag_found value_found
-whole p at t n l v a b h = simp (a, b, le-leb _ _ h)
+whole_found p at t n l v a b h = simp (a, b, le-leb _ _ h)
 
 pub element_back : (p : List ℕ) (at t form : ℕ) (value rest : List ℕ) → drop at p ≡ element t form value ++ rest → 0 < t → t < 128 ^ 4
     → FormFits form (length value) → Stands p at t value rest
@@ -49,14 +47,14 @@ element_back p at t form value rest e low high fits =
     let e1 : drop n p ≡ fb ++ (value ++ rest) = stands_past p at (tag_bytes t) (fb ++ (value ++ rest)) e0 in
     let v = n + length fb in
     let e2 : drop v p ≡ value ++ rest = stands_past p n fb (value ++ rest) e1 in
-    let a : tag_at p at ≡ T.Tag t n = tag_back p at t (fb ++ (value ++ rest)) e0 low high in
-    let b : length_at p n ≡ L.Length l v = form_back p n form l (value ++ rest) e1 fits.0 fits.1 in
+    let a : tag_at p at ≡ read t n = tag_back p at t (fb ++ (value ++ rest)) e0 low high in
+    let b : length_at p n ≡ read l v = form_back p n form l (value ++ rest) e1 fits.0 fits.1 in
     let q : length p - v ≡ l + length rest = sym (length-drop v p) ∙ ap length e2 ∙ length-append value rest in
     let x = tag_next p at t n a in
     let y = length_next p n l v b in
     record {
       from = v;
-      found = whole p at t n l v a b (omega arith);
+      found = whole_found p at t n l v a b (omega arith);
       stands = e2;
       later = omega arith;
       ends = omega arith;
@@ -71,7 +69,7 @@ pub record ElementLaid (p : List ℕ) (at t v l : ℕ) : Type 0 where
   pub fits : FormFits form (length (take l (drop v p)))
   pub stands : drop at p ≡ element t form (take l (drop v p)) ++ drop (v + l) p
 
-pub payload_laid : (p : List ℕ) (at t v l : ℕ) → Bytes p → payload_at p at ≡ Whole t v l → ElementLaid p at t v l
+pub payload_laid : (p : List ℕ) (at t v l : ℕ) → Bytes p → payload_at p at ≡ whole t v l → ElementLaid p at t v l
 payload_laid p at t v l b h =
     let r = payload_parsed p at t v l h in
     let n = r.after in
@@ -95,7 +93,7 @@ payload_laid p at t v l b h =
     }
 
 -- a payload that is found is there as an element
-pub has_laid : (p : List ℕ) (at t v l : ℕ) → Bytes p → payload_at p at ≡ Whole t v l → Has (drop at p) t (take l (drop v p)) (drop (v + l) p)
+pub has_laid : (p : List ℕ) (at t v l : ℕ) → Bytes p → payload_at p at ≡ whole t v l → Has (drop at p) t (take l (drop v p)) (drop (v + l) p)
 has_laid p at t v l b e =
     let d = payload_laid p at t v l b e in record { form = d.form; tagged = (d.low, d.high); fits = d.fits; is = d.stands }
 

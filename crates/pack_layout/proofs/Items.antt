@@ -14,9 +14,8 @@ use Rattle.numbers.proofs.Big.{big_back}
 use Rattle.crc.specs.Crc.{crc_of}
 use Rattle.pack.specs.Fixed.{item_cap}
 use Rattle.pack.specs.Said.{SaidName, SaidPayload, SaidItem, single, sync}
-use Rattle.pack.specs.declared.Found.TheVariants.{Whole}
+use Rattle.pack.specs.Payloads.{name_of, Ground, payload, whole}
 use Rattle.pack.specs.declared.Payload.{Payload}
-use Rattle.pack.specs.Payloads.{name_of, Ground, payload}
 use Rattle.pack.specs.Items.{Part, one, many, sync_ground, sync_head}
 use Rattle.pack.specs.Meaning.{meant_name, meant_payload, meant_part}
 use Rattle.pack_layout.specs.Layout.{Element, Chunk, plain, group, Entry, element, elements_bytes, group_bytes, chunks_bytes, entry_for, said_element, said_chunk}
@@ -144,7 +143,7 @@ closes_crc s before grounds form e m at used h =
     let r = element_back s at 3 form c [] (h ∙ sym (append-nil (element 3 form c))) (omega arith) (omega arith) (m, rw four (four_fits form)) in
     let v = r.from in
     let rest : length s - (v + length c) ≡ 0 = sym (length-drop (v + length c) s) ∙ ap length r.next in
-    let whole : length s ≡ length before + length c = ap length e ∙ length-append before c in
+    let size : length s ≡ length before + length c = ap length e ∙ length-append before c in
     let ends : v + 4 ≡ length s = omega (arith, r.ends) in
     let front : take v s ≡ before = ap (take v) e ∙ take_at before c v (omega arith) in
-    closed v (r.found ∙ ap (Whole 3 v) four) ends (big_back s v 4 (crc_of before) [] r.stands (crc_lt before) ∙ ap crc_of (sym front))
+    closed v (r.found ∙ ap (whole 3 v) four) ends (big_back s v 4 (crc_of before) [] r.stands (crc_lt before) ∙ ap crc_of (sym front))

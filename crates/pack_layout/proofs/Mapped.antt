@@ -8,7 +8,7 @@ use lib.ListN.{length, take, drop, length-append, length-drop}
 use lib.Seq.{take_at}
 use Rattle.runs.specs.Same.{among, listed}
 use Rattle.runs.proofs.Stands.{stands_past}
-use Rattle.numbers.specs.declared.TagRead.TheVariants as T
+use Rattle.numbers.specs.Reads.{read}
 use Rattle.numbers.specs.Tags.{tag_at, tag_bytes}
 use Rattle.numbers.proofs.Tags.{tag_back}
 use Rattle.pack.specs.Fixed.{mapping_cap}
@@ -43,7 +43,7 @@ moved (x ∷ seen) m ms = ap (λ (l : List Entry). entry_of x ∷ l) (moved seen
 
 -- a mapping that stands at `at`, before `rest`, after those of `seen`: it may come after them
 pub record MappingLaid (c : List ℕ) (at : ℕ) (seen : List Mapping) (m : Entry) (ms : List Entry) (rest : List ℕ) : Type 0 where
-  pub tag : tag_at c at ≡ T.Tag m.tag (at + length (tag_bytes m.tag))
+  pub tag : tag_at c at ≡ read m.tag (at + length (tag_bytes m.tag))
   pub room : at + length (tag_bytes m.tag) + 16 ≤ length c
   pub stands : take 16 (drop (at + length (tag_bytes m.tag)) c) ≡ m.stands
   pub apart : clashes (tags_of seen) (labels_of seen) m.tag (take 16 (drop (at + length (tag_bytes m.tag)) c)) ≡ false

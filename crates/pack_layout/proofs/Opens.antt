@@ -14,18 +14,15 @@ use Rattle.runs.proofs.Cases.{split, absurd_eq}
 use Rattle.runs.proofs.Same.{same_refl, same_true}
 use Rattle.refusals.specs.declared.Refusal.TheVariants as R
 use Rattle.refusals.specs.Outcomes.{Outcome, fine, refused, and_then}
-use Rattle.numbers.specs.declared.TagRead.{TagRead}
-use Rattle.numbers.specs.declared.TagRead.TheVariants as T
-use Rattle.numbers.specs.declared.LengthRead.{LengthRead}
-use Rattle.numbers.specs.declared.LengthRead.TheVariants as L
+use Rattle.numbers.specs.Reads.{Reads, read, malformed, cut}
 use Rattle.numbers.specs.Tags.{tag_at}
 use Rattle.numbers.specs.Lengths.{length_at}
 use Rattle.numbers.specs.Big.{big_at}
 use Rattle.numbers.proofs.Tags.{tag_next}
 use Rattle.pack.specs.Fixed.{key, pack_cap, mapping_cap}
-use Rattle.pack.specs.declared.Found.{Found}
-use Rattle.pack.specs.declared.Found.TheVariants.{Whole, Wrong}
-use Rattle.pack.specs.Payloads.{payload_at}
+use Rattle.pack.specs.Payloads.{payload_at, Found, whole, wrong}
+use Rattle.std.specs.Prelude.{Ok, Err}
+use Rattle.pack.proofs.Same.{same_whole}
 use Rattle.pack.specs.Config.{Mapping, tags_of, labels_of, clashes, mapping_at, mappings_from, config_maps}
 use Rattle.pack.specs.Items.{items_from}
 use Rattle.pack.specs.Reading.{Read, Opening, value_start, config_of, opening_at, pack_ground, read_from, reading}
@@ -40,7 +37,7 @@ mapping_of c t n = record { tag = t; stands = take 16 (drop n c); place = n }
 -- the mappings of the part c from `at` on, after those of `seen`
 pub data MappingsRead (c : List ℕ) : ℕ → List Mapping → List Mapping → Type 0 where
   none_mapped : {at : ℕ} {seen : List Mapping} → length c ≤ at → MappingsRead c at seen []
-  next_mapped : {at : ℕ} {seen more : List Mapping} (t n : ℕ) → length seen < mapping_cap → tag_at c at ≡ T.Tag t n → n + 16 ≤ length c
+  next_mapped : {at : ℕ} {seen more : List Mapping} (t n : ℕ) → length seen < mapping_cap → tag_at c at ≡ read t n → n + 16 ≤ length c
       → clashes (tags_of seen) (labels_of seen) t (take 16 (drop n c)) ≡ false
       → MappingsRead c (n + 16) (seen ++ (mapping_of c t n ∷ [])) more → MappingsRead c at seen (mapping_of c t n ∷ more)
 
@@ -49,7 +46,7 @@ pub record MappingRead (c : List ℕ) (seen : List Mapping) (at : ℕ) (m : Mapp
   pub t : ℕ
   pub n : ℕ
   pub few : length seen < mapping_cap
-  pub tag : tag_at c at ≡ T.Tag t n
+  pub tag : tag_at c at ≡ read t n
   pub room : n + 16 ≤ length c
   pub apart : clashes (tags_of seen) (labels_of seen) t (take 16 (drop n c)) ≡ false
   pub is : mapping_of c t n ≡ m
@@ -78,10 +75,10 @@ module _ (c : List ℕ) (place : ℕ) where
       (λ a. let i : refused R.Count place ≡ fine m = simp a at h in absurd_eq (cc))
       (λ a. tagged (tag_at c at) refl a)
     where
-      tagged : (r : TagRead) → tag_at c at ≡ r → leb mapping_cap (length seen) ≡ false → MappingRead c seen at m
-      tagged T.Bad e a = let i : refused R.Tag place ≡ fine m = simp (a, e) at h in absurd_eq (cc)
-      tagged T.Cut e a = let i : refused R.Config place ≡ fine m = simp (a, e) at h in absurd_eq (cc)
-      tagged (T.Tag t n) e a =
+      tagged : (r : Reads) → tag_at c at ≡ r → leb mapping_cap (length seen) ≡ false → MappingRead c seen at m
+      tagged malformed e a = let i : refused R.Tag place ≡ fine m = simp (a, e) at h in absurd_eq (cc)
+      tagged cut e a = let i : refused R.Config place ≡ fine m = simp (a, e) at h in absurd_eq (cc)
+      tagged (read t n) e a =
           split (ltb (length c - n) 16)
           (λ b. let i : refused R.Config place ≡ fine m = simp (a, e, b) at h in absurd_eq (cc))
           (λ b. split (clashes (tags_of seen) (labels_of seen) t (take 16 (drop n c)))
@@ -122,8 +119,8 @@ module _ (c : List ℕ) (place : ℕ) where
 
 -- a pack's opening at `at`: its offset, its mappings, and where its items start
 pub data OpeningRead (s : List ℕ) (at : ℕ) : ℕ → List Mapping → ℕ → Type 0 where
-  no_config_read : ((v l : ℕ) → payload_at s at ≡ Whole 1 v l → ⊥) → OpeningRead s at 0 [] at
-  config_read : {ms : List Mapping} (v l : ℕ) → payload_at s at ≡ Whole 1 v l → 2 ≤ l → MappingsRead (take (v + l) s) (v + 2) [] ms
+  no_config_read : ((v l : ℕ) → payload_at s at ≡ whole 1 v l → ⊥) → OpeningRead s at 0 [] at
+  config_read : {ms : List Mapping} (v l : ℕ) → payload_at s at ≡ whole 1 v l → 2 ≤ l → MappingsRead (take (v + l) s) (v + 2) [] ms
       → OpeningRead s at (big_at s v 2) ms (v + l)
 
 abbrev opening : ℕ → List Mapping → ℕ → Opening
@@ -136,7 +133,7 @@ module _ (s : List ℕ) (at : ℕ) where
       simp (le-ltb _ _ h)
       (then_fine (λ ms. fine (opening (big_at s v 2) ms (v + l))) (mappings_run (take (v + l) s) at l r (simp length-take (omega arith))))
 
-  config_of_lem : (v l : ℕ) (o : Opening) → payload_at s at ≡ Whole 1 v l → config_of s at v l ≡ fine o → OpeningRead s at o.offset o.mappings o.next
+  config_of_lem : (v l : ℕ) (o : Opening) → payload_at s at ≡ whole 1 v l → config_of s at v l ≡ fine o → OpeningRead s at o.offset o.mappings o.next
   unfolding config_maps and_then
   config_of_lem v l o e h =
       split (ltb l 2)
@@ -151,30 +148,37 @@ module _ (s : List ℕ) (at : ℕ) where
   opening_run (no_config_read none) = found (payload_at s at) refl
     where
       found : (f : Found) → payload_at s at ≡ f → opening_at s at ≡ fine (opening 0 [] at)
-      found (Wrong why) e = simp e
-      found (Whole t v l) e = simp (e, ne_eqb t 1 (λ z. none v l (e ∙ ap (λ (n : ℕ). Whole n v l) z)))
+      found (Err why) e = simp e
+      found (Ok x) e =
+          let t = x.tag in
+          let v = x.value.start in
+          let l = x.value.len in
+          simp (e, ne_eqb t 1 (λ z. none v l (e ∙ ap (λ (n : ℕ). whole n v l) z)))
   opening_run (config_read {ms = ms} v l e h r) = simp e (config_is v l ms h r)
 
   pub opening_of : (o : Opening) → opening_at s at ≡ fine o → OpeningRead s at o.offset o.mappings o.next
   unfolding opening_at
   opening_of o h = found (payload_at s at) refl
     where
-      plain : fine (opening 0 [] at) ≡ fine o → ((v l : ℕ) → payload_at s at ≡ Whole 1 v l → ⊥) → OpeningRead s at o.offset o.mappings o.next
+      plain : fine (opening 0 [] at) ≡ fine o → ((v l : ℕ) → payload_at s at ≡ whole 1 v l → ⊥) → OpeningRead s at o.offset o.mappings o.next
       plain i none = let z : opening 0 [] at ≡ o = cc in subst (λ (p : Opening). OpeningRead s at p.offset p.mappings p.next) z (no_config_read none)
 
       found : (f : Found) → payload_at s at ≡ f → OpeningRead s at o.offset o.mappings o.next
-      found (Wrong why) e = plain (simp e at h) (λ v l g. let i : Wrong why ≡ Whole 1 v l = sym e ∙ g in absurd_eq (cc))
-      found (Whole t v l) e =
+      found (Err why) e = plain (simp e at h) (λ v l g. let i : wrong why ≡ whole 1 v l = sym e ∙ g in absurd_eq (cc))
+      found (Ok x) e =
+          let t = x.tag in
+          let v = x.value.start in
+          let l = x.value.len in
           split (eqb t 1)
-          (λ a. config_of_lem v l o (e ∙ ap (λ (n : ℕ). Whole n v l) (eqb-true _ _ a)) (simp (e, a) at h))
-          (λ a. plain (simp (e, a) at h) (λ w m g. let i : Whole t v l ≡ Whole 1 w m = sym e ∙ g in eqb-false t 1 a (cc)))
+          (λ a. config_of_lem v l o (e ∙ ap (λ (n : ℕ). whole n v l) (eqb-true _ _ a)) (simp (e, a) at h))
+          (λ a. plain (simp (e, a) at h) (λ w m g. eqb-false t 1 a (same_whole e g).0))
 
 -- where the value of the pack s starts
 pub record StartRead (s : List ℕ) (start : ℕ) : Type 0 where
   pub small : length s ≤ pack_cap
   pub keyed : take 16 s ≡ key
   pub long : 16 ≤ length s
-  pub size : length_at s 16 ≡ L.Length (length s - start) start
+  pub size : length_at s 16 ≡ read (length s - start) start
 
 module _ (s : List ℕ) (start : ℕ) where
   pub start_run : StartRead s start → value_start s ≡ fine start
@@ -196,10 +200,10 @@ module _ (s : List ℕ) (start : ℕ) where
       (λ k. sized (length_at s 16) refl a b k)
       (λ k. let i : refused R.Key 0 ≡ fine start = simp (a, b, k) at h in absurd_eq (cc))))
     where
-      sized : (r : LengthRead) → length_at s 16 ≡ r → ltb pack_cap (length s) ≡ false → ltb (length s) 16 ≡ false → same (take 16 s) key ≡ true → StartRead s start
-      sized L.Forbidden e a b k = let i : refused R.Length 16 ≡ fine start = simp (a, b, k, e) at h in absurd_eq (cc)
-      sized L.Cut e a b k = let i : refused R.Short 0 ≡ fine start = simp (a, b, k, e) at h in absurd_eq (cc)
-      sized (L.Length l n) e a b k =
+      sized : (r : Reads) → length_at s 16 ≡ r → ltb pack_cap (length s) ≡ false → ltb (length s) 16 ≡ false → same (take 16 s) key ≡ true → StartRead s start
+      sized malformed e a b k = let i : refused R.Length 16 ≡ fine start = simp (a, b, k, e) at h in absurd_eq (cc)
+      sized cut e a b k = let i : refused R.Short 0 ≡ fine start = simp (a, b, k, e) at h in absurd_eq (cc)
+      sized (read l n) e a b k =
           split (ltb (length s - n) l)
           (λ c. let i : refused R.Short 0 ≡ fine start = simp (a, b, k, e, c) at h in absurd_eq (cc))
           (λ c. split (ltb l (length s - n))
@@ -207,7 +211,7 @@ module _ (s : List ℕ) (start : ℕ) where
           (λ d. let i : fine n ≡ fine start = simp (a, b, k, e, c, d) at h in
           let z : n ≡ start = cc in
           let y : l ≡ length s - start = omega (arith, ltb-false) in
-          record { small = ltb-false _ _ a; keyed = same_true _ _ k; long = ltb-false _ _ b; size = e ∙ ap₂ L.Length y z }))
+          record { small = ltb-false _ _ a; keyed = same_true _ _ k; long = ltb-false _ _ b; size = e ∙ ap₂ read y z }))
 
 -- a pack that is read
 pub record PackRead (s : List ℕ) (r : Read) : Type 0 where

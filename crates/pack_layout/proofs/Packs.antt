@@ -8,15 +8,14 @@ use lib.ListN.{length, take, drop, length-append}
 use lib.Seq.{take_at, drop_at}
 use Rattle.runs.specs.Digits.{digits}
 use Rattle.runs.proofs.Digits.{length_digits}
-use Rattle.runs.proofs.Cases.{absurd_eq}
 use Rattle.runs.proofs.Stands.{stands_past}
-use Rattle.numbers.specs.declared.LengthRead.TheVariants as L
+use Rattle.numbers.specs.Reads.{read}
 use Rattle.numbers.specs.Lengths.{form_bytes}
 use Rattle.numbers.proofs.Lengths.{form_back}
 use Rattle.pack.specs.Fixed.{key, pack_cap, item_cap}
 use Rattle.pack.specs.Said.{SaidItem}
-use Rattle.pack.specs.declared.Found.TheVariants.{Whole}
-use Rattle.pack.specs.Payloads.{payload_at, name_of, Ground}
+use Rattle.pack.specs.Payloads.{payload_at, name_of, Ground, whole}
+use Rattle.pack.proofs.Same.{same_whole}
 use Rattle.pack.specs.Config.{Mapping, tags_of, labels_of}
 use Rattle.pack.specs.Items.{Part}
 use Rattle.pack.specs.Reading.{Read, pack_ground}
@@ -57,18 +56,18 @@ start_laid s body form n e m fits small =
         small = small;
         keyed = ap (take 16) e ∙ take_at key (fb ++ body) 16 key_long;
         long = omega arith;
-        size = form_back s 16 form n body e1 fits.0 fits.1 ∙ ap (λ (k : ℕ). L.Length k start) left;
+        size = form_back s 16 form n body e1 fits.0 fits.1 ∙ ap (λ (k : ℕ). read k start) left;
       };
       stands = e2;
     }
 
 -- what begins with an item, or with what closes a pack, does not begin with a Config
 no_config_lem : {s : List ℕ} {grounds : Ground} {at used : ℕ} {parts : List Part} {mark : Bool} → ItemsRead s grounds at used parts mark
-    → (v l : ℕ) → payload_at s at ≡ Whole 1 v l → ⊥
+    → (v l : ℕ) → payload_at s at ≡ whole 1 v l → ⊥
 no_config_lem {s} {at = at} (ended h) v l e = let x = payload_within s at 1 v l e in omega arith
-no_config_lem (closed w f z c) v l e = absurd_eq (let i = sym f ∙ e in cc)
-no_config_lem (next_plain t w m f h u r) v l e = let z : t ≡ 1 = (let i = sym f ∙ e in cc) in omega arith
-no_config_lem (next_sync w m xs f h u n i r) v l e = absurd_eq (let i = sym f ∙ e in cc)
+no_config_lem (closed w f z c) v l e = absurd (omega (arith, (same_whole f e).0))
+no_config_lem (next_plain t w m f h u r) v l e = omega (arith, (same_whole f e).0)
+no_config_lem (next_sync w m xs f h u n i r) v l e = absurd (omega (arith, (same_whole f e).0))
 
 -- the Config at `start`, before `rest`
 pub record Opened (s : List ℕ) (start : ℕ) (first : ConfigLaid) (rest : List ℕ) : Type 0 where

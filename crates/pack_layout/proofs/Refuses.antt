@@ -20,8 +20,7 @@ use Rattle.numbers.specs.Big.{big_at}
 use Rattle.numbers.proofs.Big.{big_canonical}
 use Rattle.crc.specs.Crc.{crc_of}
 use Rattle.pack.specs.Fixed.{item_cap}
-use Rattle.pack.specs.declared.Found.TheVariants.{Whole}
-use Rattle.pack.specs.Payloads.{payload_at, inner_at, name_of, Ground, payload, inners_from}
+use Rattle.pack.specs.Payloads.{payload_at, inner_at, name_of, Ground, payload, inners_from, whole, wrong}
 use Rattle.pack.specs.Items.{one, many, judged, item_at, some_inside, sync_ground, sync_head, with, items_from}
 use Rattle.pack.specs.Meaning.{meant_name}
 use Rattle.pack.proofs.Turns.{inners_end, inside_none}
@@ -79,7 +78,7 @@ module _ (q : List ℕ) (grounds : Ground) (base : ℕ) (b : Bytes q) where
 
 module _ (s : List ℕ) (grounds : Ground) (b : Bytes s) where
   -- a Sync of fewer than five bytes
-  sync_refused : (k at used v l : ℕ) → at < length s → payload_at s at ≡ Whole 2 v l → used < item_cap → l ≤ 4 → items_from (suc k) s grounds at used ≡ refused R.Sync at
+  sync_refused : (k at used v l : ℕ) → at < length s → payload_at s at ≡ whole 2 v l → used < item_cap → l ≤ 4 → items_from (suc k) s grounds at used ≡ refused R.Sync at
   unfolding items_from item_at judged
   sync_refused k at used v l i e u few =
       split (ltb l 4)
@@ -102,14 +101,14 @@ module _ (s : List ℕ) (grounds : Ground) (b : Bytes s) where
       let f = form_bytes h.form 4 in
       let after = ap length r.next in
       let ends : from + 4 ≡ length s = omega (arith, after, length-drop (from + length v) s, r.ends) in
-      let whole : s ≡ start ++ (content ++ (t ++ (f ++ v) ++ [])) =
+      let parts : s ≡ start ++ (content ++ (t ++ (f ++ v) ++ [])) =
       is ∙ ap (λ (w : List ℕ). start ++ (content ++ w)) (h.is ∙ ap (λ (n : ℕ). t ++ (form_bytes h.form n ++ v) ++ []) four) in
-      let front = before_crc_lem s start content t f v from whole (omega arith) in
+      let front = before_crc_lem s start content t f v from parts (omega arith) in
       let value : take 4 (drop from s) ≡ v = ap (take 4) r.stands ∙ take_at v [] 4 four in
       let other = ne_eqb (big_at s from 4) (crc_of (take from s))
       (λ good. wrong (sym value ∙ sym (big_canonical s from 4 b (omega arith)) ∙ ap (digits 256 4) (good ∙ ap crc_of front))) in
       let i = begins_within r in
-      (i, simp (lt-ltb _ _ i, r.found ∙ ap (Whole 3 from) four, eq-eqb _ _ ends, other))
+      (i, simp (lt-ltb _ _ i, r.found ∙ ap (whole 3 from) four, eq-eqb _ _ ends, other))
 
   -- no item begins at `at`
   item_refused : (k at used : ℕ) (start content : List ℕ) {why : Refusal} → NoItem start content (drop at s) used why → s ≡ start ++ (content ++ drop at s)

@@ -17,7 +17,7 @@ use Rattle.refusals.specs.declared.Refusal.{Refusal}
 use Rattle.refusals.specs.declared.Refusal.TheVariants as R
 use Rattle.refusals.specs.Outcomes.{refused}
 use Rattle.refusals.proofs.Outcomes.{then_fine, then_refused}
-use Rattle.numbers.specs.declared.TagRead.TheVariants as T
+use Rattle.numbers.specs.Reads.{cut}
 use Rattle.numbers.specs.Tags.{tag_at, tag_bytes}
 use Rattle.numbers.proofs.Tags.{tag_back, tag_next}
 use Rattle.pack.specs.Fixed.{mapping_cap}
@@ -52,7 +52,7 @@ module _ (c : List ℕ) (place : ℕ) (b : Bytes c) where
   entry_refused seen at (entry_runs_out few t label fits long lacks) =
       (omega (arith, length-drop at c, lacks.some), by (lacks_entry c at b (record { t = t; label = label; tagged = fits; long = long; lacks = lacks })))
     where
-      by : (tag_at c at ≡ T.Cut) ⊎ CutLabel c at → mapping_at c place seen at ≡ refused R.Config place
+      by : (tag_at c at ≡ cut) ⊎ CutLabel c at → mapping_at c place seen at ≡ refused R.Config place
       by (inl e) = mapping_cut c place seen at (omega (arith, length-map seen entry_of)) e
       by (inr r) = mapping_short c place seen at (omega (arith, length-map seen entry_of)) r.t r.n r.tag r.short
   entry_refused seen at (entry_taken few t label rest fits long is clash) =

@@ -12,8 +12,8 @@ use Rattle.refusals.proofs.Outcomes.{then_fine, then_refused}
 use Rattle.numbers.specs.Lengths.{form_bytes}
 use Rattle.numbers.proofs.Lengths.{length_next}
 use Rattle.pack.specs.Fixed.{key}
-use Rattle.pack.specs.declared.Found.TheVariants.{Whole}
-use Rattle.pack.specs.Payloads.{payload_at, Ground}
+use Rattle.pack.specs.Payloads.{payload_at, Ground, whole, wrong}
+use Rattle.pack.proofs.Same.{same_whole}
 use Rattle.numbers.specs.Big.{big_at}
 use Rattle.pack.specs.Config.{labels_of}
 use Rattle.pack.specs.Items.{items_from}
@@ -44,15 +44,14 @@ frame_read s start value f =
 -- what stands at `at`
 module _ (s : List ℕ) (at : ℕ) where
   -- a payload of the tag t that is found with the tag 1
-  one_there : {t : ℕ} {u rest w : List ℕ} → Has w t u rest → drop at s ≡ w → (v l : ℕ) → payload_at s at ≡ Whole 1 v l → t ≡ 1
+  one_there : {t : ℕ} {u rest w : List ℕ} → Has w t u rest → drop at s ≡ w → (v l : ℕ) → payload_at s at ≡ whole 1 v l → t ≡ 1
   one_there {t} {u} {rest} h e v l g =
       let r = has_back s at t u rest (subst (λ (x : List ℕ). Has x t u rest) (sym e) h) in
-      let i : Whole t r.from (length u) ≡ Whole 1 v l = sym r.found ∙ g in
-      cc
+      (same_whole r.found g).0
 
   -- what is no item although nothing stands before it does not begin with a Config
   none_first : {start content w : List ℕ} {used : ℕ} {why : Refusal} → Bytes s → NoItem start content w used why → length content ≡ 0 → drop at s ≡ w
-      → (v l : ℕ) → payload_at s at ≡ Whole 1 v l → ⊥
+      → (v l : ℕ) → payload_at s at ≡ whole 1 v l → ⊥
   none_first {why = why} b (item_broken n) z e v l g =
       let r = broken_element s at why b (subst (λ (x : List ℕ). NoElement x why) (sym e) n) in absurd_eq (let i = sym r.1 ∙ g in cc)
   none_first b (late_config u rest h some) z e v l g = omega arith
@@ -64,7 +63,7 @@ module _ (s : List ℕ) (at : ℕ) where
 
   -- nor do well-formed chunks
   no_config_first : (cs : List Chunk) (w : List ℕ) → drop at s ≡ chunks_bytes cs ++ w → WellChunks cs
-      → (length (chunks_bytes cs) ≡ 0 → drop at s ≡ w → (v l : ℕ) → payload_at s at ≡ Whole 1 v l → ⊥) → (v l : ℕ) → payload_at s at ≡ Whole 1 v l → ⊥
+      → (length (chunks_bytes cs) ≡ 0 → drop at s ≡ w → (v l : ℕ) → payload_at s at ≡ whole 1 v l → ⊥) → (v l : ℕ) → payload_at s at ≡ whole 1 v l → ⊥
   unfolding chunks_bytes
   no_config_first [] w e well none v l g = none refl e v l g
   no_config_first (plain x ∷ cs) w e well none v l g =
@@ -81,7 +80,7 @@ module _ (s : List ℕ) (at : ℕ) where
 
   -- the opening that is laid out is read, unless what follows nothing is a Config
   opening_back : (first : ConfigLaid) (cs : List Chunk) (w : List ℕ) → drop at s ≡ config_bytes first ++ (chunks_bytes cs ++ w) → WellConfig first → WellChunks cs
-      → (length (config_bytes first ++ chunks_bytes cs) ≡ 0 → drop at s ≡ w → (v l : ℕ) → payload_at s at ≡ Whole 1 v l → ⊥)
+      → (length (config_bytes first ++ chunks_bytes cs) ≡ 0 → drop at s ≡ w → (v l : ℕ) → payload_at s at ≡ whole 1 v l → ⊥)
       → Opened s at first (chunks_bytes cs ++ w)
   unfolding config_bytes
   opening_back no_config cs w e well items none =
@@ -106,7 +105,7 @@ module _ (s : List ℕ) (b : Bytes s) where
 
   -- items that are wrong after what is laid out well
   items_back : {used place : ℕ} {why : Refusal} (start content w : List ℕ) → Framed s start (content ++ w) → Front content used
-      → (length content ≡ 0 → (at : ℕ) → drop at s ≡ w → (v l : ℕ) → payload_at s at ≡ Whole 1 v l → ⊥)
+      → (length content ≡ 0 → (at : ℕ) → drop at s ≡ w → (v l : ℕ) → payload_at s at ≡ whole 1 v l → ⊥)
       → ((grounds : Ground) (k at : ℕ) → drop at s ≡ w → length s ≤ at + k → items_from k s grounds at used ≡ refused why place) → reading s ≡ refused why place
   unfolding reading read_from
   items_back {used} start content w f d none stop =

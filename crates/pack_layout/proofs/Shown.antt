@@ -12,7 +12,6 @@ use Rattle.pack.specs.declared.Name.{Name}
 use Rattle.pack.specs.declared.Name.TheVariants as N
 use Rattle.pack.specs.declared.Item.{Item}
 use Rattle.pack.specs.declared.Item.TheVariants as I
-use Rattle.pack.specs.declared.Slot.{Slot}
 use Rattle.pack_layout.proofs.Bounds as B
 
 module _ (s : List ℕ) (n : ℕ) (few : n ≤ mapping_cap) where
@@ -26,4 +25,4 @@ module _ (s : List ℕ) (n : ℕ) (few : n ≤ mapping_cap) where
   item_fits (I.Sync y) h = tt
 
   pub slots_fit : (ps : List Part) → Each (B.PartLies s n) ps → SlotsFit (slots ps)
-  slots_fit ps h = each_map (λ (w : Slot). item_fits w.item) (slots ps) (B.slots_lie s n ps h)
+  slots_fit ps h = each_map (λ (w : Item). item_fits w) (slots ps) (B.slots_lie s n ps h)

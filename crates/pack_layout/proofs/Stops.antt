@@ -17,12 +17,10 @@ use Rattle.refusals.proofs.Outcomes.{then_was, then_stops, then_kept}
 use Rattle.numbers.specs.Big.{big_at}
 use Rattle.crc.specs.Crc.{crc_of}
 use Rattle.pack.specs.Fixed.{item_cap}
-use Rattle.pack.specs.declared.Found.{Found}
-use Rattle.pack.specs.declared.Found.TheVariants.{Whole, Wrong}
+use Rattle.pack.specs.Payloads.{payload_at, Ground, payload, inners_from, Found, whole}
+use Rattle.std.specs.Prelude.{Ok, Err}
 use Rattle.pack.specs.declared.Payload.{Payload}
-use Rattle.pack.specs.declared.Step.{Step}
-use Rattle.pack.specs.Payloads.{payload_at, Ground, payload, inners_from}
-use Rattle.pack.specs.Items.{Body, one, many, judged, item_at, some_inside, sync_ground, inside_of, sync_head, with, items_from}
+use Rattle.pack.specs.Items.{Body, Steps, one, many, judged, item_at, some_inside, sync_ground, inside_of, sync_head, with, items_from}
 use Rattle.pack.proofs.Payloads.{payload_within}
 use Rattle.pack_layout.specs.Layout.{Chunk, plain, group, element, group_bytes, chunks_bytes}
 use Rattle.pack_layout.specs.Well.{WellChunk, WellChunks, chunks_count}
@@ -91,7 +89,7 @@ module _ (s : List ℕ) (grounds : Ground) (b : Bytes s) where
   module _ (k at used : ℕ) {why : Refusal} {place : ℕ} (i : at < length s) (u : used ≤ item_cap) (h : items_from (suc k) s grounds at used ≡ refused why place)
       (rest : (m n : ℕ) → at < m → n ≤ item_cap → items_from k s grounds m n ≡ refused why place → ItemsStop s m n why place) where
     -- after a payload
-    stop_plain : (t v l : ℕ) → payload_at s at ≡ Whole t v l → 3 < t → used < item_cap → ItemsStop s at used why place
+    stop_plain : (t v l : ℕ) → payload_at s at ≡ whole t v l → 3 < t → used < item_cap → ItemsStop s at used why place
     unfolding chunks_bytes chunks_count
     stop_plain t v l e above room =
         let x = payload_within s at t v l e in
@@ -103,7 +101,7 @@ module _ (s : List ℕ) (grounds : Ground) (b : Bytes s) where
         (rest (v + l) (used + 1) (omega arith) (omega arith) r)
 
     -- after a Sync
-    stop_after : (v l : ℕ) (ps : List Payload) → payload_at s at ≡ Whole 2 v l → 4 ≤ l → used < item_cap → 0 < length ps
+    stop_after : (v l : ℕ) (ps : List Payload) → payload_at s at ≡ whole 2 v l → 4 ≤ l → used < item_cap → 0 < length ps
         → InnersRead (take (l - 4) (drop (v + 4) s)) (sync_ground s grounds v) (v + 4) 0 (used + 1) ps
         → items_from k s grounds (v + l) (used + 1 + length ps) ≡ refused why place → ItemsStop s at used why place
     unfolding chunks_bytes chunks_count
@@ -117,7 +115,7 @@ module _ (s : List ℕ) (grounds : Ground) (b : Bytes s) where
         (subst (λ (n : ℕ). ItemsStop s (v + l) n why place) y (rest (v + l) (used + 1 + length ps) (omega arith) count r))
 
     -- a Sync in which nothing was read
-    stop_empty : (v l : ℕ) (ps : List Payload) → payload_at s at ≡ Whole 2 v l → used < item_cap
+    stop_empty : (v l : ℕ) (ps : List Payload) → payload_at s at ≡ whole 2 v l → used < item_cap
         → inners_from l (take (l - 4) (drop (v + 4) s)) (sync_ground s grounds v) (v + 4) 0 (used + 1) ≡ fine ps → some_inside at ps ≡ refused why place → ItemsStop s at used why place
     stop_empty v l ps e room inner none =
         let q = take (l - 4) (drop (v + 4) s) in
@@ -129,7 +127,7 @@ module _ (s : List ℕ) (grounds : Ground) (b : Bytes s) where
         stop_item at used i u n.1 n.2 (λ start content is first. empty_sync _ _ (has_laid s at 2 v l b e) room few)
 
     -- among the payloads of a Sync
-    stop_inside : (v l : ℕ) → payload_at s at ≡ Whole 2 v l → 4 ≤ l → used < item_cap → inside_of s grounds at v l used ≡ refused why place → ItemsStop s at used why place
+    stop_inside : (v l : ℕ) → payload_at s at ≡ whole 2 v l → 4 ≤ l → used < item_cap → inside_of s grounds at v l used ≡ refused why place → ItemsStop s at used why place
     stop_inside v l e long room r =
         let q = take (l - 4) (drop (v + 4) s) in
         then_stops (inners_from l q (sync_ground s grounds v) (v + 4) 0 (used + 1)) (some_inside at) r
@@ -138,7 +136,7 @@ module _ (s : List ℕ) (grounds : Ground) (b : Bytes s) where
         (λ ps inner none. stop_empty v l ps e room inner none)
 
     -- inside a Sync, or after it
-    stop_sync : (v l : ℕ) → payload_at s at ≡ Whole 2 v l → 4 ≤ l → used < item_cap → ItemsStop s at used why place
+    stop_sync : (v l : ℕ) → payload_at s at ≡ whole 2 v l → 4 ≤ l → used < item_cap → ItemsStop s at used why place
     stop_sync v l e long room =
         let q = take (l - 4) (drop (v + 4) s) in
         then_stops (inside_of s grounds at v l used)
@@ -153,7 +151,7 @@ module _ (s : List ℕ) (grounds : Ground) (b : Bytes s) where
         (then_kept (items_from k s grounds (v + l) (used + 1 + length ps)) (λ body. record { parts = c ∷ body.parts; crc = body.crc }) z))
 
     -- at a CRC of four bytes that ends the pack
-    stop_crc : (v : ℕ) → payload_at s at ≡ Whole 3 v 4 → v + 4 ≡ length s → ItemsStop s at used why place
+    stop_crc : (v : ℕ) → payload_at s at ≡ whole 3 v 4 → v + 4 ≡ length s → ItemsStop s at used why place
     unfolding items_from item_at judged
     stop_crc v e ends =
         let a = lt-ltb _ _ i in
@@ -164,21 +162,25 @@ module _ (s : List ℕ) (grounds : Ground) (b : Bytes s) where
         stop_item at used i u (cc) (cc) (crc_wrong s b at used v e ends (eqb-false _ _ c)))
 
     -- by what the payload there is judged to be
-    stop_judged : (t v l : ℕ) (step : Step) → payload_at s at ≡ Whole t v l → judged s used t v l ≡ step → Judged s used t v l step → ItemsStop s at used why place
+    stop_judged : (t v l : ℕ) (step : Steps) → payload_at s at ≡ whole t v l → judged s used t v l ≡ step → Judged s used t v l step → ItemsStop s at used why place
     unfolding items_from item_at
     stop_judged t v l step e g (as_plain n1 n2 n3 room) = stop_plain t v l e (let x = payload_laid s at t v l b e in omega (arith, x.low, n1, n2, n3)) room
-    stop_judged t v l step e g (as_sync is2 room long) = stop_sync v l (e ∙ ap (λ (n : ℕ). Whole n v l) is2) long room
-    stop_judged t v l step e g (as_crc is3 four ends) = stop_crc v (e ∙ ap₂ (λ (m n : ℕ). Whole m v n) is3 four) (ap (λ (n : ℕ). v + n) (sym four) ∙ ends)
+    stop_judged t v l step e g (as_sync is2 room long) = stop_sync v l (e ∙ ap (λ (n : ℕ). whole n v l) is2) long room
+    stop_judged t v l step e g (as_crc is3 four ends) = stop_crc v (e ∙ ap₂ (λ (m n : ℕ). whole m v n) is3 four) (ap (λ (n : ℕ). v + n) (sym four) ∙ ends)
     stop_judged t v l step e g (as_bad {why = w} bad) =
         let j : ◌≡◌ {A = Outcome Body} (refused w at) (refused why place) = simp (lt-ltb _ _ i, e, g) at h in
         stop_item at used i u (cc) (cc) (bad_item s b at used t v l e bad)
 
     stop_found : (f : Found) → payload_at s at ≡ f → ItemsStop s at used why place
     unfolding items_from item_at
-    stop_found (Wrong w) e =
+    stop_found (Err w) e =
         let j : ◌≡◌ {A = Outcome Body} (refused w at) (refused why place) = simp (lt-ltb _ _ i, e) at h in
         stop_item at used i u (cc) (cc) (λ start content is first. item_broken (element_broken s at w b i e))
-    stop_found (Whole t v l) e = stop_judged t v l (judged s used t v l) e refl (judged_of s used t v l)
+    stop_found (Ok x) e =
+        let t = x.tag in
+        let v = x.value.start in
+        let l = x.value.len in
+        stop_judged t v l (judged s used t v l) e refl (judged_of s used t v l)
 
   -- the items from `at` on, with enough steps left
   pub items_stop : (k at used : ℕ) {why : Refusal} {place : ℕ} → length s ≤ at + k → used ≤ item_cap → items_from k s grounds at used ≡ refused why place

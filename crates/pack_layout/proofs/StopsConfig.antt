@@ -15,8 +15,7 @@ use Rattle.refusals.specs.declared.Refusal.{Refusal}
 use Rattle.refusals.specs.declared.Refusal.TheVariants as R
 use Rattle.refusals.specs.Outcomes.{Outcome, fine, refused}
 use Rattle.refusals.proofs.Outcomes.{then_stops}
-use Rattle.numbers.specs.declared.TagRead.{TagRead}
-use Rattle.numbers.specs.declared.TagRead.TheVariants as T
+use Rattle.numbers.specs.Reads.{Reads, read, malformed, cut}
 use Rattle.numbers.specs.Tags.{tag_at, tag_bytes}
 use Rattle.numbers.specs.Big.{big_at}
 use Rattle.numbers.proofs.Big.{big_lt}
@@ -65,10 +64,10 @@ module _ (c : List ℕ) (place : ℕ) (b : Bytes c) where
       room : leb mapping_cap (length seen) ≡ false → length (map entry_of seen) < mapping_cap
       room a = omega (arith, leb-false, length-map seen entry_of)
 
-      tagged : (r : TagRead) → tag_at c at ≡ r → leb mapping_cap (length seen) ≡ false → NoEntry (map entry_of seen) (drop at c) why × (place ≡ p)
-      tagged T.Bad e a = told (simp (a, e) at h) (entry_bad_tag (room a) (tag_bad c at e))
-      tagged T.Cut e a = told (simp (a, e) at h) (lacking (room a) (tag_cut_lacks c at b i e))
-      tagged (T.Tag t n) e a =
+      tagged : (r : Reads) → tag_at c at ≡ r → leb mapping_cap (length seen) ≡ false → NoEntry (map entry_of seen) (drop at c) why × (place ≡ p)
+      tagged malformed e a = told (simp (a, e) at h) (entry_bad_tag (room a) (tag_bad c at e))
+      tagged cut e a = told (simp (a, e) at h) (lacking (room a) (tag_cut_lacks c at b i e))
+      tagged (read t n) e a =
           let few = room a in
           split (ltb (length c - n) 16)
           (λ y. told (simp (a, e, y) at h) (lacking few (label_cut_lacks c at t n b e (ltb-true _ _ y))))
@@ -79,7 +78,7 @@ module _ (c : List ℕ) (place : ℕ) (b : Bytes c) where
           (λ d. let j : fine (mapping_of c t n) ≡ refused why p = simp (a, e, y, d) at h in absurd_eq (cc)))
 
   -- the bytes of the mappings of `seen` and of the one at `at`
-  one_more : (seen : List Mapping) (at t n : ℕ) → tag_at c at ≡ T.Tag t n
+  one_more : (seen : List Mapping) (at t n : ℕ) → tag_at c at ≡ read t n
       → entries_bytes (map entry_of (seen ++ (mapping_of c t n ∷ []))) ++ drop (n + 16) c ≡ entries_bytes (map entry_of seen) ++ drop at c
   one_more seen at t n e =
       let m = mapping_of c t n in

@@ -13,10 +13,9 @@ use Rattle.refusals.specs.declared.Refusal.{Refusal}
 use Rattle.refusals.specs.Outcomes.{Outcome, fine, refused}
 use Rattle.refusals.proofs.Outcomes.{then_kept}
 use Rattle.pack.specs.Fixed.{item_cap}
-use Rattle.pack.specs.declared.Found.{Found}
-use Rattle.pack.specs.declared.Found.TheVariants.{Whole, Wrong}
+use Rattle.pack.specs.Payloads.{payload_at, inner_at, Ground, payload, inners_from, Found, whole}
+use Rattle.std.specs.Prelude.{Ok, Err}
 use Rattle.pack.specs.declared.Payload.{Payload}
-use Rattle.pack.specs.Payloads.{payload_at, inner_at, Ground, payload, inners_from}
 use Rattle.pack.proofs.Payloads.{payload_within}
 use Rattle.pack_layout.specs.Layout.{Element, element, elements_bytes}
 use Rattle.pack_layout.specs.Well.{WellElements}
@@ -58,7 +57,7 @@ module _ (q : List ℕ) (grounds : Ground) (base : ℕ) (b : Bytes q) where
       }
 
   -- one element more before what is none
-  more_inner : {why : Refusal} {place : ℕ} (at used t v l : ℕ) → payload_at q at ≡ Whole t v l → 3 < t
+  more_inner : {why : Refusal} {place : ℕ} (at used t v l : ℕ) → payload_at q at ≡ whole t v l → 3 < t
       → InnersStop q base (v + l) (used + 1) why place → InnersStop q base at used why place
   unfolding elements_bytes
   more_inner {why} at used t v l e h r =
@@ -89,10 +88,13 @@ module _ (q : List ℕ) (grounds : Ground) (base : ℕ) (b : Bytes q) where
     where
       found : ((m n : ℕ) → length q ≤ m + k → n ≤ item_cap → inners_from k q grounds base m n ≡ refused why place → InnersStop q base m n why place)
           → (f : Found) → payload_at q at ≡ f → ltb at (length q) ≡ true → InnersStop q base at used why place
-      found ih (Wrong w) e a =
+      found ih (Err w) e a =
           let i : at < length q = ltb-true _ _ a in
           stop_inner at used i u (simp (a, e) at h) (inner_broken (element_broken q at w b i e))
-      found ih (Whole t v l) e a =
+      found ih (Ok x) e a =
+          let t = x.tag in
+          let v = x.value.start in
+          let l = x.value.len in
           let i : at < length q = ltb-true _ _ a in
           let has = has_laid q at t v l b e in
           split (leb t 3)

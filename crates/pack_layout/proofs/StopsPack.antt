@@ -14,9 +14,8 @@ use Rattle.refusals.proofs.Outcomes.{then_stops, then_kept}
 use Rattle.numbers.specs.Lengths.{form_bytes}
 use Rattle.numbers.proofs.Lengths.{form_sound}
 use Rattle.pack.specs.Fixed.{key}
-use Rattle.pack.specs.declared.Found.{Found}
-use Rattle.pack.specs.declared.Found.TheVariants.{Whole, Wrong}
-use Rattle.pack.specs.Payloads.{payload_at}
+use Rattle.pack.specs.Payloads.{payload_at, Found, whole, wrong}
+use Rattle.std.specs.Prelude.{Ok, Err}
 use Rattle.pack.specs.Config.{Mapping, config_maps}
 use Rattle.pack.specs.Items.{items_from}
 use Rattle.pack.specs.Reading.{Opening, value_start, opening_at, pack_ground, read_from, reading}
@@ -84,10 +83,13 @@ module _ (s : List ℕ) (b : Bytes s) (why : Refusal) (place : ℕ) where
   config_says at r h = found (payload_at s at) refl
     where
       found : (f : Found) → payload_at s at ≡ f → Refused s why place
-      found (Wrong w) e = let i : ◌≡◌ {A = Outcome Opening} (fine (record { offset = 0; mappings = []; next = at })) (refused why place) = simp e at h in absurd_eq (cc)
-      found (Whole t v l) e =
+      found (Err w) e = let i : ◌≡◌ {A = Outcome Opening} (fine (record { offset = 0; mappings = []; next = at })) (refused why place) = simp e at h in absurd_eq (cc)
+      found (Ok x) e =
+          let t = x.tag in
+          let v = x.value.start in
+          let l = x.value.len in
           split (eqb t 1)
-          (λ a. let e1 : payload_at s at ≡ Whole 1 v l = e ∙ ap (λ (n : ℕ). Whole n v l) (eqb-true _ _ a) in
+          (λ a. let e1 : payload_at s at ≡ whole 1 v l = e ∙ ap (λ (n : ℕ). whole n v l) (eqb-true _ _ a) in
           let x = payload_within s at t v l e in
           let i = then_kept (config_maps s at v l) (λ ms. record { offset = big_at s v 2; mappings = ms; next = v + l }) (simp (e, a) at h) in
           let c = config_stop s at v l b x.inside i in

@@ -16,8 +16,7 @@ use Rattle.numbers.proofs.Big.{big_back, big_lt}
 use Rattle.crc.specs.Crc.{crc_of}
 use Rattle.crc.proofs.Serial.{crc_lt}
 use Rattle.pack.specs.Fixed.{item_cap}
-use Rattle.pack.specs.declared.Found.TheVariants.{Whole}
-use Rattle.pack.specs.Payloads.{payload_at}
+use Rattle.pack.specs.Payloads.{payload_at, whole}
 use Rattle.pack.proofs.Payloads.{payload_within}
 use Rattle.pack_layout.specs.Layout.{Element, element, elements_bytes, group_bytes}
 use Rattle.pack_layout.specs.Well.{FormFits, WellElements}
@@ -63,7 +62,7 @@ before_crc_lem s start content t f c v e z =
 
 module _ (s : List ℕ) (b : Bytes s) where
   -- a payload that ends the pack
-  has_last : (at t v l : ℕ) → payload_at s at ≡ Whole t v l → v + l ≡ length s → Has (drop at s) t (take l (drop v s)) []
+  has_last : (at t v l : ℕ) → payload_at s at ≡ whole t v l → v + l ≡ length s → Has (drop at s) t (take l (drop v s)) []
   has_last at t v l e ends =
       let d = payload_laid s at t v l b e in
       let none : drop (v + l) s ≡ [] = drop_of_length-le s {i = v + l} (omega arith) in
@@ -75,24 +74,24 @@ module _ (s : List ℕ) (b : Bytes s) where
       }
 
   -- a value that is found has its length
-  pub value_length : (at t v l : ℕ) → payload_at s at ≡ Whole t v l → length (take l (drop v s)) ≡ l
+  pub value_length : (at t v l : ℕ) → payload_at s at ≡ whole t v l → length (take l (drop v s)) ≡ l
   value_length at t v l e = part_length s v l (payload_within s at t v l e).inside
 
   -- why a payload with the tag t is no item, in the words of the layout
-  pub bad_item : {why : Refusal} (at used t v l : ℕ) → payload_at s at ≡ Whole t v l → BadItem s used t v l why → NoItemAfter s (drop at s) used why
+  pub bad_item : {why : Refusal} (at used t v l : ℕ) → payload_at s at ≡ whole t v l → BadItem s used t v l why → NoItemAfter s (drop at s) used why
   bad_item at used t v l e (late is1) start content is first =
-      let h = has_laid s at 1 v l b (e ∙ ap (λ (n : ℕ). Whole n v l) is1) in late_config _ _ h (first _ _ h)
+      let h = has_laid s at 1 v l b (e ∙ ap (λ (n : ℕ). whole n v l) is1) in late_config _ _ h (first _ _ h)
   bad_item at used t v l e (early is3 before) start content is first =
       let x = payload_within s at t v l e in
-      early_crc _ _ (has_laid s at 3 v l b (e ∙ ap (λ (n : ℕ). Whole n v l) is3)) (simp length-drop (omega (arith, before)))
+      early_crc _ _ (has_laid s at 3 v l b (e ∙ ap (λ (n : ℕ). whole n v l) is3)) (simp length-drop (omega (arith, before)))
   bad_item at used t v l e (unsized is3 ends other) start content is first =
-      long_crc _ (has_last at 3 v l (e ∙ ap (λ (n : ℕ). Whole n v l) is3) ends) (λ z. other (sym (value_length at t v l e) ∙ z))
+      long_crc _ (has_last at 3 v l (e ∙ ap (λ (n : ℕ). whole n v l) is3) ends) (λ z. other (sym (value_length at t v l e) ∙ z))
   bad_item at used t v l e (one_more n1 n3 full) start content is first = item_too_many t _ _ (has_laid s at t v l b e) n1 n3 full
   bad_item at used t v l e (small is2 room few) start content is first =
-      empty_sync _ _ (has_laid s at 2 v l b (e ∙ ap (λ (n : ℕ). Whole n v l) is2)) room (omega (arith, value_length at t v l e))
+      empty_sync _ _ (has_laid s at 2 v l b (e ∙ ap (λ (n : ℕ). whole n v l) is2)) room (omega (arith, value_length at t v l e))
 
   -- a CRC of four bytes that ends the pack and is not that of the bytes before it
-  pub crc_wrong : (at used v : ℕ) → payload_at s at ≡ Whole 3 v 4 → v + 4 ≡ length s → (big_at s v 4 ≡ crc_of (take v s) → ⊥) → NoItemAfter s (drop at s) used R.Crc
+  pub crc_wrong : (at used v : ℕ) → payload_at s at ≡ whole 3 v 4 → v + 4 ≡ length s → (big_at s v 4 ≡ crc_of (take v s) → ⊥) → NoItemAfter s (drop at s) used R.Crc
   crc_wrong at used v e ends bad start content is first =
       let h = has_last at 3 v 4 e ends in
       let c = take 4 (drop v s) in
@@ -108,7 +107,7 @@ module _ (s : List ℕ) (b : Bytes s) where
       (λ good. bad (big_back s v 4 (crc_of before) [] (last ∙ good ∙ sym (append-nil (digits 256 4 (crc_of before)))) (crc_lt before) ∙ ap crc_of (sym front)))
 
   -- a Sync whose payloads go wrong
-  pub sync_wrong : {why : Refusal} {place : ℕ} (at used v l : ℕ) → payload_at s at ≡ Whole 2 v l → 4 ≤ l
+  pub sync_wrong : {why : Refusal} {place : ℕ} (at used v l : ℕ) → payload_at s at ≡ whole 2 v l → 4 ≤ l
       → InnersStop (take (l - 4) (drop (v + 4) s)) (v + 4) 0 (used + 1) why place → WrongSync s (drop at s) used why place
   sync_wrong at used v l e h r =
       let d = payload_laid s at 2 v l b e in

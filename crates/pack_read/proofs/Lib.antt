@@ -2,4 +2,4 @@ pub mod One
 pub mod Outlines
 mod Slots
 mod Listing
-pub mod Opening
+pub mod Openings

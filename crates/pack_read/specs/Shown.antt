@@ -1,28 +1,31 @@
 -- Inner. What is read of a pack into lent arrays: the outline of the reading, and what the arrays hold.
-use Rattle.std.specs.Prelude.{◌≡◌, List, ℕ}
-use Rattle.pack.specs.Reading.{reading}
-use Rattle.pack.specs.Slots.{shown}
-use Rattle.pack.specs.declared.Reading.{Reading}
-use Rattle.pack_slots.specs.Slots.{slots_in, Exact}
+use Rattle.std.specs.Prelude.{◌≡◌, List, [], Result, ℕ, replicate}
+use Rattle.refusals.specs.declared.Refused.{Refused}
+use Rattle.refusals.specs.Outcomes.{Outcome, fine, refused, answered}
+use Rattle.pack.specs.Fixed.{item_cap}
+use Rattle.pack.specs.Config.{Mapping}
+use Rattle.pack.specs.Reading.{Read, reading}
+use Rattle.pack.specs.Slots.{slots, blank, padded}
+use Rattle.pack.specs.declared.Item.{Item}
+use Rattle.pack_config.specs.declared.table.Mappings.{Mappings}
+use Rattle.pack_config.specs.Tables.{Tables}
+use Rattle.pack_read.specs.Steps.{outline}
 use Rattle.pack_read.specs.declared.Outline.{Outline}
 
--- what is read beside the slots and the mappings
-abbrev pub outline_of : Reading → Outline
-outline_of f = record { answer = f.answer; offset = f.offset; crc = f.crc; mapped = f.mapped }
+-- what is told of a reading
+abbrev pub outline_of : Read → Outline
+outline_of r = outline r.offset r.body
 
--- a reading's struct from its outline and what the arrays hold
-abbrev pub assembled : Outline → List ℕ → List ℕ → List ℕ → Reading
-assembled o tags places slots = record {
-  answer = o.answer;
-  offset = o.offset;
-  crc = o.crc;
-  mapped = o.mapped;
-  tags = tags;
-  labels = places;
-  items = slots_in slots;
-}
+-- its items in their slots and its mappings, of which there are none where it is refused
+abbrev pub items_of : Outcome Read → List Item
+items_of (fine r) = padded item_cap blank (slots r.body.parts)
+items_of (refused why place) = replicate item_cap blank
 
--- the outline and what the arrays hold are the reading, and the array of its slots is their numbers
-pub record Outlined (s : List ℕ) (r : Outline) (slots tags places : List ℕ) : Type 0 where
-  pub whole : assembled r tags places slots ≡ shown (reading s)
-  pub exact : Exact slots
+abbrev pub mappings_of : Outcome Read → List Mapping
+mappings_of (fine r) = r.mappings
+mappings_of (refused why place) = []
+
+pub record Outlined (s : List ℕ) (r : Result Outline Refused) (items : List Item) (maps : Mappings) : Type 0 where
+  pub told : r ≡ answered outline_of (reading s)
+  pub held : items ≡ items_of (reading s)
+  pub tables : Tables (mappings_of (reading s)) maps

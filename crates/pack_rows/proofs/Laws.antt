@@ -11,7 +11,6 @@ use Rattle.pack.specs.declared.Name.TheVariants.{Label, Number}
 use Rattle.pack.specs.declared.Item.{Item}
 use Rattle.pack.specs.declared.Item.TheVariants.{Single, Sync, Inner}
 use Rattle.pack.specs.declared.Head.{Head}
-use Rattle.pack.specs.declared.Slot.{Slot}
 use Rattle.pack.proofs.Made.{place_padded}
 use Rattle.pack_rows.specs.Rows.{payload_row, sync_row, item_row}
 
@@ -28,11 +27,11 @@ item_eight places (Single x) = payload_eight places 0 x.name x.start x.value_sta
 item_eight places (Sync h) = refl
 item_eight places (Inner x) = payload_eight places 2 x.name x.start x.value_start x.value_len x.total
 
-pub length_rows : (places : List ℕ) (ws : List Slot) → length (made (item_row places) ws) ≡ 8 * length ws
+pub length_rows : (places : List ℕ) (ws : List Item) → length (made (item_row places) ws) ≡ 8 * length ws
 unfolding made
 length_rows places [] = refl
 length_rows places (w ∷ ws) =
-    omega (arith, length-append (item_row places w.item) (made (item_row places) ws), item_eight places w.item, length_rows places ws)
+    omega (arith, length-append (item_row places w) (made (item_row places) ws), item_eight places w, length_rows places ws)
 
 -- THE PLACES
 

@@ -1,5 +1,5 @@
 pub mod Fields
-pub mod Slots
+pub mod Items
 pub mod Shown
 pub mod Whole
 pub mod Within

@@ -10,7 +10,7 @@ use Rattle.pack.specs.Fixed.{mapping_cap, item_cap}
 use Rattle.pack.specs.Config.{Mapping, places_of}
 use Rattle.pack.specs.Items.{Part, one, many, count_of}
 use Rattle.pack.specs.Reading.{Read}
-use Rattle.pack.specs.Slots.{slot, slots, blank, padded}
+use Rattle.pack.specs.Slots.{slots, blank, padded}
 use Rattle.pack.specs.Made.{made}
 use Rattle.pack.proofs.Made.{made_same, place_padded}
 use Rattle.pack.proofs.Slots.{slots_taken}
@@ -19,22 +19,21 @@ use Rattle.pack.specs.declared.Name.TheVariants.{Label, Number}
 use Rattle.pack.specs.declared.Payload.{Payload}
 use Rattle.pack.specs.declared.Item.{Item}
 use Rattle.pack.specs.declared.Item.TheVariants as I
-use Rattle.pack.specs.declared.Slot.{Slot}
 use Rattle.pack_layout.proofs.Bounds.{NameFits, ItemLies, slots_lie, LabelLies, label_at, Accepted}
 use Rattle.pack_text.specs.Text.{line, sync_fields, named_line, payload_line, payload_lines, part_lines}
-use Rattle.pack_text.specs.Slots.{item_line, slot_lines, NameStands, ItemStands, SlotsStand}
+use Rattle.pack_text.specs.Items.{item_line, item_lines, NameStands, ItemStands, ItemsStand}
 
 -- the lines of the slots of parts are those of the parts
 module _ (s places : List ℕ) where
-  inner_lines : (xs : List Payload) (ws : List Slot)
-      → slot_lines s places (map (λ (x : Payload). slot (I.Inner x)) xs ++ ws) ≡ payload_lines s places xs ++ slot_lines s places ws
+  inner_lines : (xs : List Payload) (ws : List Item)
+      → item_lines s places (map (λ (x : Payload). I.Inner x) xs ++ ws) ≡ payload_lines s places xs ++ item_lines s places ws
   unfolding made payload_lines
   inner_lines [] ws = refl
   inner_lines (x ∷ xs) ws =
       ap (λ (l : List ℕ). payload_line s places x ++ l) (inner_lines xs ws)
-      ∙ sym (append_assoc (payload_line s places x) (payload_lines s places xs) (slot_lines s places ws))
+      ∙ sym (append_assoc (payload_line s places x) (payload_lines s places xs) (item_lines s places ws))
 
-  pub lines_of : (ps : List Part) → slot_lines s places (slots ps) ≡ part_lines s places ps
+  pub lines_of : (ps : List Part) → item_lines s places (slots ps) ≡ part_lines s places ps
   unfolding made slots part_lines
   lines_of [] = refl
   lines_of (one x ∷ r) = ap (λ (l : List ℕ). payload_line s places x ++ l) (lines_of r)
@@ -69,18 +68,18 @@ module _ (s : List ℕ) (r : Read) (a : Accepted s r) where
   abbrev filled : List ℕ
   filled = padded mapping_cap 0 (places_of r.mappings)
 
-  abbrev first : List Slot
+  abbrev first : List Item
   first = take (count_of r.body.parts) (padded item_cap blank (slots r.body.parts))
 
-  pub accepted_lines : slot_lines s filled first ≡ part_lines s (places_of r.mappings) r.body.parts
+  pub accepted_lines : item_lines s filled first ≡ part_lines s (places_of r.mappings) r.body.parts
   accepted_lines =
       let places = places_of r.mappings in
-      ap (slot_lines s filled) (slots_taken r.body.parts)
+      ap (item_lines s filled) (slots_taken r.body.parts)
       ∙ made_same (item_line s filled) (item_line s places) (item_line_lem s places (mapping_cap - length places)) (slots r.body.parts) ∙ lines_of s places r.body.parts
 
-  pub accepted_stand : SlotsStand s filled first
+  pub accepted_stand : ItemsStand s filled first
   accepted_stand =
       let k = mapping_cap - length (places_of r.mappings) in
-      subst (SlotsStand s filled) (sym (slots_taken r.body.parts))
-      (each_map (λ (w : Slot). item_stands s r.mappings a.mapped a.labels k w.item) (slots r.body.parts)
+      subst (ItemsStand s filled) (sym (slots_taken r.body.parts))
+      (each_map (item_stands s r.mappings a.mapped a.labels k) (slots r.body.parts)
       (slots_lie s (length r.mappings) r.body.parts a.parts))

@@ -1,58 +1,55 @@
--- The struct that shows a reading, and the listing: what its answer tells of the lines to write.
-use mathlib.Core.Path.{◌≡◌, refl, sym, ap, subst, ◌∙◌}
+-- The listing, by what is answered of a pack: the lines that are shown of a reading, or the line of a refusal.
+use mathlib.Core.Path.{◌≡◌, sym, ap, subst, ◌∙◌}
 use mathlib.Core.List.{List, ◌++◌}
 use Prim.Native.Nat.{ℕ, ◌≤◌}
-use lib.ListN.{take}
+use native.Mathlib.Omega.{arith}
+use lib.ListN.{length, take}
+use Rattle.std.specs.Prelude.{Ok, Err}
 use Rattle.runs.specs.Digits.{Bytes}
-use Rattle.runs.proofs.Cases.{absurd_eq}
+use Rattle.runs.proofs.Writing.{Writing, writing_as, writing_begins}
 use Rattle.refusals.specs.Refusals.{number_of}
-use Rattle.refusals.specs.Outcomes.{Outcome, fine, refused}
-use Rattle.refusals.specs.declared.Refusal.{Refusal}
-use Rattle.refusals.specs.declared.Answer.{Answer}
-use Rattle.refusals.specs.declared.Answer.TheVariants.{Done, Refused}
+use Rattle.refusals.specs.Outcomes.{answered}
+use Rattle.refusals.specs.declared.Refused.{Refused}
+use Rattle.refusals.proofs.Outcomes.{done_of_lem, refused_of}
 use Rattle.pack.specs.Fixed.{item_cap}
 use Rattle.pack.specs.Items.{count_of}
-use Rattle.pack.specs.Reading.{Read, reading}
+use Rattle.pack.specs.Reading.{reading}
 use Rattle.pack.specs.Slots.{shown}
 use Rattle.pack.specs.declared.Reading.{Reading}
+use Rattle.pack.proofs.Slots.{slots_count, slots_taken}
 use Rattle.pack_layout.proofs.Bounds.{reading_bounds}
 use Rattle.pack_text.specs.Text.{line, pack_fields, refused_fields, listing}
-use Rattle.pack_text.specs.Slots.{slot_lines, SlotsStand}
+use Rattle.pack_text.specs.Items.{item_lines, ItemsStand}
+use Rattle.pack_text.proofs.Within.{listing_fits}
 use Rattle.pack_text.proofs.Shown.{accepted_lines, accepted_stand}
 
--- the lines to write where n slots are shown: the pack's, then those of the slots
-pub record Lines (s : List ℕ) (o : Outcome Read) (f : Reading) (n : ℕ) : Type 0 where
-  pub few : n ≤ item_cap
-  pub whole : listing s o ≡ line (pack_fields f.offset n f.crc) ++ slot_lines s f.labels (take n f.items)
-  pub stand : SlotsStand s f.labels (take n f.items)
+-- the lines of a reading that is shown: the pack's, then those of its items
+pub record Lines (s : List ℕ) (f : Reading) : Type 0 where
+  pub few : f.count ≤ item_cap
+  pub there : f.count ≡ length (take f.count f.items)
+  pub whole : line (pack_fields f.offset f.count f.crc) ++ item_lines s f.labels (take f.count f.items) ≡ listing s (reading s)
+  pub stand : ItemsStand s f.labels (take f.count f.items)
 
-shown_lines : (s : List ℕ) → Bytes s → (o : Outcome Read) → reading s ≡ o → (n : ℕ) → (shown o).answer ≡ Done n → Lines s o (shown o) n
+pub reading_lines : (s : List ℕ) → Bytes s → {f : Reading} → Ok f ≡ answered shown (reading s) → Lines s f
 unfolding shown listing
-shown_lines s b (fine r) e n h =
-    let a = reading_bounds s b r e in
-    let z : count_of r.body.parts ≡ n = cc in
-    subst (Lines s (fine r) (shown (fine r))) z
+reading_lines s b h =
+    let d = done_of_lem shown (reading s) h in
+    let r = d.0 in
+    let a = reading_bounds s b r d.1 in
+    subst (Lines s) (sym d.2)
     (record {
       few = a.count;
-      whole = ap (λ (l : List ℕ). line (pack_fields r.offset (count_of r.body.parts) r.body.crc) ++ l) (sym (accepted_lines s r a));
+      there = sym (ap length (slots_taken r.body.parts) ∙ slots_count r.body.parts);
+      whole = ap (λ (l : List ℕ). line (pack_fields r.offset (count_of r.body.parts) r.body.crc) ++ l) (accepted_lines s r a) ∙ sym (ap (listing s) d.1);
       stand = accepted_stand s r a;
     })
-shown_lines s b (refused why place) e n h = absurd_eq (cc)
 
-shown_refused : (s : List ℕ) (o : Outcome Read) (why : Refusal) (place : ℕ) → (shown o).answer ≡ Refused why place → listing s o ≡ line (refused_fields (number_of why) place)
-unfolding shown listing
-shown_refused s (fine r) why place h = absurd_eq (cc)
-shown_refused s (refused x p) why place h =
-    let y : x ≡ why = cc in
-    let z : p ≡ place = cc in
-    rw (y, z)
+pub refused_line : (s : List ℕ) {x : Refused} → Err x ≡ answered shown (reading s) → line (refused_fields (number_of x.why) x.place) ≡ listing s (reading s)
+unfolding listing
+refused_line s h = sym (ap (listing s) (refused_of shown (reading s) h))
 
-module _ (s : List ℕ) (f : Reading) (e : f ≡ shown (reading s)) where
-  answer_is : {x : Answer} → f.answer ≡ x → (shown (reading s)).answer ≡ x
-  answer_is h = sym (ap (λ (g : Reading). g.answer) e) ∙ h
-
-  pub done_lines : Bytes s → (n : ℕ) → f.answer ≡ Done n → Lines s (reading s) f n
-  done_lines b n h = subst (λ (g : Reading). Lines s (reading s) g n) (sym e) (shown_lines s b (reading s) refl n (answer_is h))
-
-  pub refused_line : (why : Refusal) (place : ℕ) → f.answer ≡ Refused why place → listing s (reading s) ≡ line (refused_fields (number_of why) place)
-  refused_line why place h = shown_refused s (reading s) why place (answer_is h)
+-- which are to be written, where there is room for any listing
+pub reading_begins : (s out : List ℕ) → Bytes s → {f : Reading} → Ok f ≡ answered shown (reading s) → 4096 ≤ length out
+    → Writing out 0 (listing s (reading s)) out 0 (line (pack_fields f.offset f.count f.crc) ++ item_lines s f.labels (take f.count f.items))
+reading_begins s out b h room =
+    writing_as (sym (reading_lines s b h).whole) (writing_begins out 0 (listing s (reading s)) (omega (arith, room, listing_fits s b)))

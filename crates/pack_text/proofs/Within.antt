@@ -28,11 +28,10 @@ use Rattle.pack.specs.declared.Name.{Name}
 use Rattle.pack.specs.declared.Name.TheVariants.{Label, Number}
 use Rattle.pack.specs.declared.Item.{Item}
 use Rattle.pack.specs.declared.Item.TheVariants.{Single, Sync, Inner}
-use Rattle.pack.specs.declared.Slot.{Slot}
 use Rattle.pack_layout.proofs.Bounds.{NameFits, ItemLies, PartLies, slots_lie, reading_bounds}
 use Rattle.figures.specs.Figures.{decimal, integer}
 use Rattle.pack_text.specs.Text.{line, pack_fields, sync_fields, number_fields, label_fields, named_line, part_lines, refused_fields, listing}
-use Rattle.pack_text.specs.Slots.{item_line, slot_lines}
+use Rattle.pack_text.specs.Items.{item_line, item_lines}
 use Rattle.pack_text.proofs.Fields.{line_size}
 use Rattle.pack_text.proofs.Shown.{lines_of}
 use Rattle.figures.proofs.Figures.{length_decimal, size_most, decimal_short, signed_low, signed_high, length_hex}
@@ -95,14 +94,14 @@ module _ (s places : List ℕ) (mapped : ℕ) (small : length s ≤ pack_cap) wh
         decimal_most y.inside,
       )
 
-  slots_short : (ws : List Slot) → Each (λ (w : Slot). ItemLies s mapped w.item) ws → length (slot_lines s places ws) ≤ 63 * length ws
+  items_short : (ws : List Item) → Each (λ (w : Item). ItemLies s mapped w) ws → length (item_lines s places ws) ≤ 63 * length ws
   unfolding made
-  slots_short [] h = omega arith
-  slots_short (w ∷ ws) h =
-      omega (arith, length-append (item_line s places w.item) (slot_lines s places ws), item_short w.item h.0, slots_short ws h.1)
+  items_short [] h = omega arith
+  items_short (w ∷ ws) h =
+      omega (arith, length-append (item_line s places w) (item_lines s places ws), item_short w h.0, items_short ws h.1)
 
   parts_short : (ps : List Part) → Each (PartLies s mapped) ps → length (part_lines s places ps) ≤ 63 * count_of ps
-  parts_short ps h = omega (arith, slots_short (slots ps) (slots_lie s mapped ps h), ap length (lines_of s places ps), slots_count ps)
+  parts_short ps h = omega (arith, items_short (slots ps) (slots_lie s mapped ps h), ap length (lines_of s places ps), slots_count ps)
 
 pub outcome_fits : (s : List ℕ) → Bytes s → (o : Outcome Read) → reading s ≡ o → length (listing s o) ≤ 4096
 unfolding listing

@@ -1,3 +1,3 @@
 pub mod Text
 pub mod Fields
-pub mod Slots
+pub mod Items

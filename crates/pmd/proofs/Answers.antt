@@ -3,21 +3,21 @@ use Prim.Native.Nat.{ℕ, ◌<◌, ◌≤◌}
 use mathlib.Core.Path.{◌≡◌, sym, ap, subst, ◌∙◌}
 use mathlib.Core.List.{List}
 use lib.ListN.{length}
-use Rattle.refusals.specs.Outcomes.{Outcome, fine, refused, and_then}
+use Rattle.refusals.specs.Outcomes.{Outcome, fine, refused, and_then, Answer}
 use Rattle.refusals.specs.declared.Refusal.{Refusal}
 use Rattle.refusals.specs.declared.Refusal.TheVariants as R
-use Rattle.refusals.specs.declared.Answer.{Answer}
-use Rattle.refusals.specs.declared.Answer.TheVariants as A
+use Rattle.std.specs.Prelude.{Err}
+use Rattle.refusals.specs.Refusals.{refused_at}
 use Rattle.refusals.specs.Lent.{within, Delivered}
 use Rattle.refusals.proofs.Lent.{fine_within, none_within, delivered_refused}
 
 module _ {o : Outcome (List ℕ)} {before : List ℕ} {r : Answer} where
-  pub delivers_none : {why : Refusal} {place : ℕ} → o ≡ refused why place → r ≡ A.Refused why place → Delivered (within (length before) o) before r before
+  pub delivers_none : {why : Refusal} {place : ℕ} → o ≡ refused why place → r ≡ Err (refused_at why place) → Delivered (within (length before) o) before r before
   unfolding and_then
   delivers_none e h = delivered_refused (ap (within (length before)) e) h
 
   module _ {xs : List ℕ} (e : o ≡ fine xs) where
-    pub delivers_noroom : length before < length xs → r ≡ A.Refused R.NoRoom 0 → Delivered (within (length before) o) before r before
+    pub delivers_noroom : length before < length xs → r ≡ Err (refused_at R.NoRoom 0) → Delivered (within (length before) o) before r before
     delivers_noroom l h = delivered_refused (ap (within (length before)) e ∙ none_within (length before) xs l) h
 
     pub delivers_all : {after : List ℕ} → length xs ≤ length before → Delivered o before r after → Delivered (within (length before) o) before r after

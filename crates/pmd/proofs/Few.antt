@@ -17,8 +17,7 @@ use Rattle.refusals.specs.Outcomes.{fine, refused}
 use Rattle.refusals.specs.declared.Refusal.TheVariants as R
 use Rattle.pmd.specs.declared.Kind.{Kind}
 use Rattle.pmd.specs.declared.Kind.TheVariants as K
-use Rattle.pmd.specs.declared.Named.{Named}
-use Rattle.pmd.specs.declared.Named.TheVariants as N
+use Rattle.std.specs.Prelude.{Option, Some, None}
 use Rattle.pmd.specs.Table.{Part, kind_of, record_of}
 use Rattle.pmd.specs.Records.{width, after, closed, opened, first_record}
 use Rattle.pmd.specs.Reading.{read_as, fields_read}
@@ -159,10 +158,10 @@ written_few K.Aen = row_few (record_of K.Aen) (first_record K.Aen) (refl, refl) 
 written_few K.Esn = row_few (record_of K.Esn) (first_record K.Esn) (refl, refl) (omega arith, omega arith)
 written_few K.Etd = turnaround_few
 
-read_few : (named : Named) (s xs : List ℕ) → read_as named s ≡ fine xs → length xs ≤ 9828
+read_few : (named : Option Kind) (s xs : List ℕ) → read_as named s ≡ fine xs → length xs ≤ 9828
 unfolding read_as
-read_few N.Unknown s xs e = absurd_eq (cc)
-read_few (N.Known kind) s xs e =
+read_few None s xs e = absurd_eq (cc)
+read_few (Some kind) s xs e =
     split (ltb 4096 (length s))
     (λ l. let q : refused R.Big 0 ≡ fine xs = simp l at e in absurd_eq (cc))
     (λ l.

@@ -1,87 +1,121 @@
--- The walk over a shape, whose fields stand in a row, in three nested loops: over records, over the pieces of a record, over the fields of a piece. `K` is what a loop knows
--- when this is left of the record; a place, which goes on with each field, is where it stands in what it reads.
+-- The walk over a shape in three nested loops: over records, over the pieces of a record, over the fields of a piece. `K` is what a loop knows when
+-- this is left of the record; a place, which goes on with each field, is where it stands in what it reads.
 use Prim.Native.Nat.{ℕ, zero, suc, ◌+◌, ◌<◌, ◌≤◌}
 use mathlib.Core.Path.{◌≡◌, refl, sym, ap, ap₂, subst, ◌∙◌}
 use mathlib.Core.List.{List, [], ◌∷◌}
 use mathlib.Core.Bool.{Bool, true, false}
+use mathlib.Core.Logic.{◌⊎◌, inl}
 use native.Mathlib.Omega.{arith}
 use native.Mathlib.Numerals.{add-one}
-use lib.ListN.{length, take, get_or, drop_of_length-le}
-use lib.Seq.{drop-cons, length-take-le, get_or-take}
-use Rattle.runs.proofs.Cases.{absurd_eq}
-use Rattle.pmd.specs.declared.Field.TheVariants as W
+use lib.Dec.{ltb, leb}
+use lib.ListN.{length, take, drop, get_or, drop_of_length-le}
+use lib.Seq.{drop-cons, drop-drop, length-take-le, get_or-take}
+use borrow.Author.Tests.{ltb-true, leb-true, eqb-true}
+use Rattle.std.specs.List.{list_all}
+use Rattle.runs.proofs.Bools.{and_both}
+use Rattle.pmd.specs.declared.Field.TheVariants as F
 use Rattle.pmd.specs.declared.Piece.{Piece}
+use Rattle.pmd.specs.declared.Stands.TheVariants as S
 use Rattle.pmd.specs.declared.Shape.{Shape}
 use Rattle.pmd.specs.Table.{width_of, Part}
-use Rattle.pmd.specs.Shapes.{field_in, part_of, parts_of, onward, left_of, widened, Walkable}
+use Rattle.pmd.specs.Pieces.{is_wide, goes_on, passes}
+use Rattle.pmd.specs.Shapes.{part_of, parts_of, left_of}
+use Rattle.pmd.proofs.Next.{onward}
 
 -- what the checker takes to stand outside of the pieces
 abbrev pub blank : Piece
-blank = record { 0 = W.Presentation; 1 = 0; 2 = false }
+blank = record { field = F.Presentation; width = 0; stands = S.Once }
 
-widened_at : (ps : List Piece) (i : ℕ) → i < length ps → (get_or (widened ps) i blank).1 ≡ width_of (field_in (get_or ps i blank).0)
-widened_at [] i h = absurd (omega arith)
-widened_at (p ∷ ps) zero h = refl
-widened_at (p ∷ ps) (suc i) h = widened_at ps i (omega arith)
+-- a shape has so many pieces, each with its field's width, and further records begin at one of them
+pub record Walkable (shape : Shape) : Type 0 where
+  pub begins : shape.again < shape.size
+  pub few : shape.size ≤ 11
+  pub long : shape.size ≤ length shape.pieces
+  pub wide : list_all is_wide (take shape.size shape.pieces) ≡ true
+
+pub walkable : (shape : Shape) → Walkable shape
+walkable shape =
+    let begins = and_both (ltb shape.again shape.size) _ shape.walkable in
+    let few = and_both (leb shape.size 11) _ begins.1 in
+    let long = and_both (leb shape.size (length shape.pieces)) _ few.1 in
+    record { begins = ltb-true _ _ begins.0; few = leb-true _ _ few.0; long = leb-true _ _ long.0; wide = long.1 }
+
+wide_all : (ps : List Piece) (i : ℕ) → i < length ps → list_all is_wide ps ≡ true → (get_or ps i blank).width ≡ width_of (get_or ps i blank).field
+wide_all [] i h e = absurd (omega arith)
+wide_all (p ∷ ps) zero h e = eqb-true _ _ (and_both (is_wide p) (list_all is_wide ps) e).0
+wide_all (p ∷ ps) (suc i) h e = wide_all ps i (omega arith) (and_both (is_wide p) (list_all is_wide ps) e).1
+
+drop_parts : (turns : Bool) (n : ℕ) (ps : List Piece) → drop n (parts_of turns ps) ≡ parts_of turns (drop n ps)
+drop_parts turns zero ps = refl
+drop_parts turns (suc n) [] = refl
+drop_parts turns (suc n) (p ∷ ps) = drop_parts turns n ps
 
 -- what is left of a shape is its next piece and what is left then; behind the last piece nothing is left
-module _ {shape : Shape} (walkable : Walkable shape) where
-  long : length (take shape.size shape.pieces) ≡ shape.size
-  long = length-take-le shape.size shape.pieces walkable.long
+module _ (turns : Bool) (shape : Shape) where
+  abbrev counted : List Piece
+  counted = take shape.size shape.pieces
 
-  pub left_next : (i : ℕ) → i < shape.size → left_of shape i ≡ part_of (get_or shape.pieces i blank) ∷ left_of shape (i + 1)
+  long : length counted ≡ shape.size
+  long = length-take-le shape.size shape.pieces (walkable shape).long
+
+  pub left_next : (i : ℕ) → i < shape.size → left_of turns shape i ≡ part_of turns (get_or shape.pieces i blank) ∷ left_of turns shape (i + 1)
   left_next i h =
-      ap parts_of (drop-cons (take shape.size shape.pieces) i blank (omega (arith, long)))
-      ∙ ap₂ (λ (p : Piece) (m : ℕ). part_of p ∷ left_of shape m) (get_or-take shape.size shape.pieces i blank h) (sym (add-one i))
+      ap (parts_of turns) (drop-cons counted i blank (omega (arith, long)))
+      ∙ ap₂ (λ (p : Piece) (m : ℕ). part_of turns p ∷ left_of turns shape m) (get_or-take shape.size shape.pieces i blank h) (sym (add-one i))
 
-  left_none : (i : ℕ) → shape.size ≤ i → left_of shape i ≡ []
-  left_none i h = ap parts_of (drop_of_length-le (take shape.size shape.pieces) {i = i} (omega (arith, long)))
+  left_none : (i : ℕ) → shape.size ≤ i → left_of turns shape i ≡ []
+  left_none i h = ap (parts_of turns) (drop_of_length-le counted {i = i} (omega (arith, long)))
+
+  -- pieces that are passed over
+  left_passed : (i n : ℕ) → drop n (left_of turns shape i) ≡ left_of turns shape (i + n)
+  left_passed i n = drop_parts turns n (drop i counted) ∙ ap (parts_of turns) (drop-drop n i counted)
 
   -- a piece has its field's width
-  wide_at : (i : ℕ) → i < shape.size → (get_or shape.pieces i blank).1 ≡ width_of (field_in (get_or shape.pieces i blank).0)
+  wide_at : (i : ℕ) → i < shape.size → (get_or shape.pieces i blank).width ≡ width_of (get_or shape.pieces i blank).field
   wide_at i h =
-      let xs = take shape.size shape.pieces in
-      let same = get_or-take shape.size shape.pieces i blank h in
-      subst (λ (p : Piece). p.1 ≡ width_of (field_in p.0)) same (ap (λ (l : List Piece). (get_or l i blank).1) walkable.wide ∙ widened_at xs i (omega (arith, long)))
+      subst (λ (p : Piece). p.width ≡ width_of p.field) (get_or-take shape.size shape.pieces i blank h)
+      (wide_all counted i (omega (arith, long)) (walkable shape).wide)
 
-pub record Records (K : List Part → Type 0) (shape : Shape) (i : ℕ) : Type 0 where
-  pub known : K (left_of shape i)
+pub record Records (K : List Part → Type 0) (turns : Bool) (shape : Shape) (i : ℕ) : Type 0 where
+  pub known : K (left_of turns shape i)
   pub there : i < shape.size
 
--- since the loop began, at i₀, the place went on as far as the piece or further
-pub record Pieces (K : List Part → Type 0) (shape : Shape) (place₀ i₀ place i : ℕ) : Type 0 where
-  pub known : K (left_of shape i)
-  pub gone : place₀ + i ≤ place + i₀
-
--- the piece has its field's width, and had a field if it is over
-pub record Fields (K : List Part → Type 0) (shape : Shape) (i : ℕ) (piece : Piece) (place₀ place : ℕ) (more : Bool) : Type 0 where
-  pub known : K (onward piece (left_of shape (i + 1)) more)
-  pub wide : piece.1 ≡ width_of (field_in piece.0)
+-- since the loop began, at i₀, the place went on, unless the loop is still there
+pub record Pieces (K : List Part → Type 0) (turns : Bool) (shape : Shape) (place₀ i₀ place i : ℕ) : Type 0 where
+  pub known : K (left_of turns shape i)
   pub since : place₀ ≤ place
-  pub past : more ≡ false → place₀ < place
+  pub gone : (place₀ < place) ⊎ (i ≡ i₀)
 
-pub pieces_begin : {K : List Part → Type 0} {shape : Shape} {i : ℕ} (place : ℕ) → Records K shape i → Pieces K shape place i place i
-pieces_begin place r = record { known = r.known; gone = omega arith }
+-- a field of the piece i is due, which has its field's width
+pub record Fields (K : List Part → Type 0) (turns : Bool) (shape : Shape) (i : ℕ) (piece : Piece) (place₀ place : ℕ) : Type 0 where
+  pub known : K (part_of turns piece ∷ left_of turns shape (i + 1))
+  pub wide : piece.width ≡ width_of piece.field
+  pub since : place₀ ≤ place
 
-pub fields_begin : {K : List Part → Type 0} {shape : Shape} {place₀ i₀ place i : ℕ} → Walkable shape → i < shape.size → Pieces K shape place₀ i₀ place i
-    → Fields K shape i (get_or shape.pieces i blank) place place true
-fields_begin {K} {shape} {i = i} walkable h p = record
-    { known = subst K (left_next walkable i h) p.known; wide = wide_at walkable i h; since = omega arith; past = λ e. absurd_eq (cc) }
+module _ {K : List Part → Type 0} {turns : Bool} {shape : Shape} {place₀ i₀ place i : ℕ} (p : Pieces K turns shape place₀ i₀ place i) where
+  pub fields_begin : i < shape.size → Fields K turns shape i (get_or shape.pieces i blank) place place
+  fields_begin h = record { known = subst K (left_next turns shape i h) p.known; wide = wide_at turns shape i h; since = omega arith }
 
-module _ {K : List Part → Type 0} {shape : Shape} {i : ℕ} {piece : Piece} {place₀ place : ℕ} {more : Bool} (f : Fields K shape i piece place₀ place more) where
-  pub fields_open : more ≡ true → K (part_of piece ∷ left_of shape (i + 1))
-  fields_open e = subst (λ (b : Bool). K (onward piece (left_of shape (i + 1)) b)) e f.known
+  -- the piece is over, after a field with the number v
+  pub pieces_on : {L : List Part → Type 0} (piece : Piece) (v : ℕ) {next n : ℕ} → place < next → goes_on piece.stands v ≡ false → n ≡ passes turns piece.stands v
+      → L (onward turns piece (left_of turns shape (i + 1)) v) → Pieces L turns shape place₀ i₀ next (i + (1 + n))
+  pieces_on {L} piece v {next} {n} h off passed known =
+      let same : (i + 1) + n ≡ i + (1 + n) = omega arith in
+      record {
+        known =
+            subst L
+            (ap (λ (k : ℕ). drop k (left_of turns shape (i + 1))) (sym passed) ∙ left_passed turns shape (i + 1) n ∙ ap (left_of turns shape) same)
+            (simp off at known);
+        since = omega (arith, p.since);
+        gone = inl (omega (arith, p.since));
+      }
 
-  -- one field more
-  pub fields_on : {L : List Part → Type 0} {next : ℕ} {again : Bool} → place < next → L (onward piece (left_of shape (i + 1)) again)
-      → Fields L shape i piece place₀ next again
-  fields_on h k = record { known = k; wide = f.wide; since = omega (arith, f.since); past = λ e. omega (arith, f.since) }
+  -- the record is over, and the place went on
+  pub pieces_over : shape.size ≤ i → K []
+  pieces_over h = subst K (left_none turns shape i h) p.known
 
-  -- the piece is over
-  pub pieces_on : {L : List Part → Type 0} {place₁ i₁ : ℕ} → Pieces L shape place₁ i₁ place₀ i → more ≡ false → Pieces K shape place₁ i₁ place (i + 1)
-  pieces_on p e = record
-      { known = subst (λ (b : Bool). K (onward piece (left_of shape (i + 1)) b)) e f.known; gone = omega (arith, p.gone, f.past e) }
-
--- the record is over
-pub pieces_over : {K : List Part → Type 0} {shape : Shape} {place₀ i₀ place i : ℕ} → Walkable shape → shape.size ≤ i → Pieces K shape place₀ i₀ place i → K []
-pieces_over {K} {shape} {i = i} walkable h p = subst K (left_none walkable i h) p.known
+-- one field more, with the number v
+module _ {K : List Part → Type 0} {turns : Bool} {shape : Shape} {i : ℕ} {piece : Piece} {place₀ place : ℕ} (f : Fields K turns shape i piece place₀ place) where
+  pub fields_on : {L : List Part → Type 0} (v : ℕ) {next : ℕ} → place < next → goes_on piece.stands v ≡ true → L (onward turns piece (left_of turns shape (i + 1)) v)
+      → Fields L turns shape i piece place₀ next
+  fields_on {L} v h on k = record { known = simp on at k; wide = f.wide; since = omega (arith, f.since) }

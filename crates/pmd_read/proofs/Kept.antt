@@ -16,24 +16,23 @@ use Rattle.bits.proofs.Fields.{field_lt}
 use Rattle.refusals.specs.Outcomes.{Outcome, fine, refused, answered}
 use Rattle.refusals.specs.Lent.{prepend}
 use Rattle.refusals.specs.declared.Refusal.TheVariants as R
-use Rattle.refusals.specs.declared.Answer.{Answer}
-use Rattle.refusals.specs.declared.Answer.TheVariants as A
+use Rattle.refusals.specs.Outcomes.{Answer}
+use Rattle.refusals.specs.Refusals.{refused_at}
+use Rattle.std.specs.Prelude.{Ok, Err}
 use Rattle.refusals.proofs.Lent.{answers, counts}
-use Rattle.pmd.specs.Fields.{Field}
-use Rattle.pmd.specs.Fields as F
-use Rattle.pmd.specs.declared.Kind.TheVariants as K
+use Rattle.pmd.specs.declared.Field.{Field}
+use Rattle.pmd.specs.declared.Field.TheVariants as F
 use Rattle.pmd.specs.declared.Piece.{Piece}
 use Rattle.pmd.specs.declared.Shape.{Shape}
-use Rattle.pmd.specs.declared.Step.{Step}
 use Rattle.pmd.specs.declared.Value.{Value}
-use Rattle.pmd.specs.Table.{width_of, typed, may_hold, Part, once, record_of}
+use Rattle.pmd.specs.Table.{width_of, typed, may_hold, Part, once}
 use Rattle.pmd.specs.Records.{field_of, width, takes, after, closed, opened}
-use Rattle.pmd.specs.Reading.{padding, read_from, read_all}
-use Rattle.pmd.specs.Shapes.{as_number, field_in, turn_in, part_of, goes_on, onward, left_of, Walkable, after_pair, after_field, Roomy}
+use Rattle.pmd.specs.Reading.{padding, read_from}
+use Rattle.pmd.specs.Pieces.{as_number, has_partner}
+use Rattle.pmd.specs.Shapes.{part_of, left_of, Roomy}
 use Rattle.pmd.proofs.Fields.{narrow, number_value}
-use Rattle.pmd.proofs.Next.{Next, next_piece, after_piece}
-use Rattle.pmd.proofs.Turnarounds.{left_at, left_first, Stepped, next_parameters, after_parameters, Strides, strides_on}
-use Rattle.pmd.proofs.Walk.{Records, Fields, left_next, fields_open, fields_on}
+use Rattle.pmd.proofs.Next.{Next, next_piece, next_parameters, after_parameters, after_piece, onward, with_partner}
+use Rattle.pmd.proofs.Walk.{Records, Fields, walkable, left_next}
 use Rattle.pmd.proofs.Begun.{Begun, begun_none, begun_on, begun_as, begun_refused, begun_ends, begun_fits, roomy_never}
 use Rattle.pmd_read.specs.ByShape.{read_by, read_shape}
 
@@ -95,6 +94,11 @@ pub record Found (P : List ℕ → Type 0) (again first : List Part) (s : List �
 pub found_none : {P : List ℕ → Type 0} {again first : List Part} {s : List ℕ} → P [] → Found P again first s 0 0 first
 found_none {s = s} also = record
     { xs = []; also = also; steps = 8 * length s; long = refl; few = omega arith; inside = omega arith; enough = omega arith; begun = begun_none _ }
+
+pub found_at : {P : List ℕ → Type 0} {again first : List Part} {s : List ℕ} {at there n m : ℕ} {left : List Part} → there ≡ at → m ≡ n
+    → Found P again first s at n left → Found P again first s there m left
+found_at {P} {again} {first} {s} {at} {there} {n} {m} {left} e f o =
+    subst (λ (a : ℕ). Found P again first s a m left) (sym e) (subst (λ (k : ℕ). Found P again first s at k left) (sym f) o)
 
 -- where a field of w bits is next
 module _ {P : List ℕ → Type 0} {again first : List Part} {s : List ℕ} {at n w : ℕ} {left : List Part} {f : Field} (o : Found P again first s at n left) (next : Next f left) (wide : w ≡ width_of f) where
@@ -166,13 +170,13 @@ module _ {P : List ℕ → Type 0} {again first : List Part} {s : List ℕ} {at 
     over_pad z = begun_refused o.begun (closing ∙ simp (ne_eqb v 0 z))
 
   -- the answer by those bits
-  pub over_answers : {r : Answer} → 8 * length s - at < 8 → r ≡ cond (eqb (field_at s at (8 * length s - at)) 0) (A.Done n) (A.Refused R.Pad at)
+  pub over_answers : {r : Answer} → 8 * length s - at < 8 → r ≡ cond (eqb (field_at s at (8 * length s - at)) 0) (Ok n) (Err (refused_at R.Pad at))
       → r ≡ answered length (read_by again first s)
   over_answers h e =
       let v = field_at s at (8 * length s - at) in
       let is : v ≡ v = refl in
       split (eqb v 0)
-      (λ z. counts length (over_ends h is (eqb-true _ _ z)) (e ∙ simp z (ap A.Done (sym o.long))))
+      (λ z. counts length (over_ends h is (eqb-true _ _ z)) (e ∙ simp z (ap (λ (m : ℕ). Ok m) (sym o.long))))
       (λ z. answers length (over_pad h is (eqb-false _ _ z)) (e ∙ simp z))
 
   over_on : {p : Part} {left : List Part} → again ≡ p ∷ left → 8 ≤ 8 * length s - at → Found P again first s at n again
@@ -193,116 +197,79 @@ module _ {P : List ℕ → Type 0} {again first : List Part} {s : List ℕ} {at 
       let is : v ≡ v = refl in
       split (eqb v 0) (λ z. over_ends h is (eqb-true _ _ z)) (λ z. roomy_never roomy (over_pad h is (eqb-false _ _ z)))
 
--- FIELDS IN A ROW
+-- THE FIELDS OF A PIECE
 
-abbrev pub InShape : (List ℕ → Type 0) → Shape → List ℕ → ℕ → ℕ → List Part → Type 0
-InShape P shape s at n = Found P (left_of shape shape.again) (left_of shape 0) s at n
+abbrev pub InShape : (List ℕ → Type 0) → Bool → Shape → List ℕ → ℕ → ℕ → List Part → Type 0
+InShape P turns shape s at n = Found P (left_of turns shape shape.again) (left_of turns shape 0) s at n
+
+-- what is left behind the piece i
+abbrev pub behind : Bool → Shape → ℕ → Piece → ℕ → List Part
+behind turns shape i p v = onward turns p (left_of turns shape (i + 1)) v
+
+-- the piece i had the number v; its partner is due, if it has one
+abbrev pub Numbered : (List ℕ → Type 0) → Bool → Shape → List ℕ → ℕ → ℕ → ℕ → Piece → ℕ → Type 0
+Numbered P turns shape s at n i p v = InShape P turns shape s at n (with_partner (has_partner turns p.stands) (behind turns shape i p v))
 
 -- a field of the piece is due
-module _ {P : List ℕ → Type 0} {shape : Shape} {s : List ℕ} {at₀ at n i : ℕ} {p : Piece} {more : Bool} (f : Fields (InShape P shape s at n) shape i p at₀ at more) (goes : more ≡ true) where
-  pub due : InShape P shape s at n (part_of p ∷ left_of shape (i + 1))
-  due = fields_open f goes
+module _ {P : List ℕ → Type 0} {turns : Bool} {shape : Shape} {s : List ℕ} {at₀ at n i : ℕ} {p : Piece} (f : Fields (InShape P turns shape s at n) turns shape i p at₀ at) where
+  next : Next p.field (part_of turns p ∷ left_of turns shape (i + 1))
+  next = next_piece turns p (left_of turns shape (i + 1))
 
-  first_next : Next (field_in p.0) (part_of p ∷ left_of shape (i + 1))
-  first_next = next_piece p (left_of shape (i + 1))
+  -- after its number there is its partner, if it has one
+  on : {Q : List ℕ → Type 0} (v : ℕ) → InShape Q turns shape s (at + p.width) (n + 1) (after (part_of turns p ∷ left_of turns shape (i + 1)) v)
+      → Numbered Q turns shape s (at + p.width) (n + 1) i p v
+  on {Q} v k = subst (InShape Q turns shape s (at + p.width) (n + 1)) (after_piece turns p (left_of turns shape (i + 1)) v) k
 
-  -- after its number the piece goes on or does not
-  on : {Q : List ℕ → Type 0} {m : ℕ} {goes : Bool} (v : ℕ) → 1 ≤ p.1 → goes ≡ goes_on p.2 v
-      → InShape Q shape s (at + p.1) m (after (part_of p ∷ left_of shape (i + 1)) v) → Fields (InShape Q shape s (at + p.1) m) shape i p at₀ (at + p.1) goes
-  on {Q} {m} v some e k = fields_on f (omega arith) (subst (InShape Q shape s (at + p.1) m) (after_piece p (left_of shape (i + 1)) v ∙ ap (onward p (left_of shape (i + 1))) (sym e)) k)
+  pub due_fits : (n ≤ at) × (at ≤ 8 * length s) × (1 ≤ p.width) × (p.width ≤ 15)
+  due_fits = field_fits f.known next f.wide
 
-  pub due_fits : (n ≤ at) × (at ≤ 8 * length s) × (1 ≤ p.1) × (p.1 ≤ 15)
-  due_fits = field_fits due first_next f.wide
+  pub due_short : 8 * length s - at < p.width → read_shape turns shape s ≡ refused R.Bits at
+  due_short = field_short f.known next f.wide
 
-  pub due_short : 8 * length s - at < p.1 → read_shape shape s ≡ refused R.Bits at
-  due_short = field_short due first_next f.wide
+  module _ (h : p.width ≤ 8 * length s - at) {v : ℕ} (ev : v ≡ field_at s at p.width) {x : Value} (ex : x ≡ typed p.field v) where
+    pub due_bad : may_hold x ≡ false → read_shape turns shape s ≡ refused R.Field at
+    due_bad = field_bad f.known next f.wide h ev ex
 
-  module _ (h : p.1 ≤ 8 * length s - at) {v : ℕ} (ev : v ≡ field_at s at p.1) {x : Value} (ex : x ≡ typed (field_in p.0) v) where
-    pub due_bad : may_hold x ≡ false → read_shape shape s ≡ refused R.Field at
-    due_bad = field_bad due first_next f.wide h ev ex
+    pub due_on : {Q : List ℕ → Type 0} {end : ℕ} → end ≡ at + p.width → may_hold x ≡ true → Q (f.known.xs ++ (v ∷ []))
+        → Numbered Q turns shape s end (n + 1) i p v
+    due_on e b also = found_at e refl (on v (field_on f.known next f.wide h ev ex b also))
 
-    pub due_on : may_hold x ≡ true → {goes : Bool} {Q : List ℕ → Type 0} → goes ≡ goes_on p.2 v → Q (due.xs ++ (v ∷ []))
-        → Fields (InShape Q shape s (at + p.1) (n + 1)) shape i p at₀ (at + p.1) goes
-    due_on b e also = on v due_fits.2 e (field_on due first_next f.wide h ev ex b also)
+  module _ {room : ℕ} (roomy : Roomy (read_shape turns shape s) room) where
+    pub due_sure : (n ≤ at) × (at + p.width ≤ 8 * length s) × (1 ≤ p.width) × (p.width ≤ 15) × (n < room)
+    due_sure = field_sure f.known next f.wide roomy
 
-  module _ {room : ℕ} (roomy : Roomy (read_shape shape s) room) where
-    pub due_sure : (n ≤ at) × (at + p.1 ≤ 8 * length s) × (1 ≤ p.1) × (p.1 ≤ 15) × (n < room)
-    due_sure = field_sure due first_next f.wide roomy
+    pub due_stored : {v r : ℕ} {x : Value} {Q : List ℕ → Type 0} → v ≡ field_at s at p.width → x ≡ typed p.field v → r ≡ as_number x → Q (f.known.xs ++ (r ∷ []))
+        → Numbered Q turns shape s (at + p.width) (n + 1) i p r
+    due_stored {r = r} ev ex er also = on r (field_stored f.known next f.wide roomy ev ex er also)
 
-    pub due_stored : {v r : ℕ} {x : Value} {goes : Bool} {Q : List ℕ → Type 0} → v ≡ field_at s at p.1 → x ≡ typed (field_in p.0) v → r ≡ as_number x
-        → goes ≡ goes_on p.2 r → Q (due.xs ++ (r ∷ [])) → Fields (InShape Q shape s (at + p.1) (n + 1)) shape i p at₀ (at + p.1) goes
-    due_stored {r = r} ev ex er e also = on r due_fits.2 e (field_stored due first_next f.wide roomy ev ex er also)
+-- a partner is due, or is not
+module _ {P : List ℕ → Type 0} {again first : List Part} {s : List ℕ} {at n : ℕ} {has : Bool} {left : List Part} (o : Found P again first s at n (with_partner has left)) where
+  pub partner_due : has ≡ true → Found P again first s at n (once F.Parameters ∷ left)
+  partner_due e = subst (λ (b : Bool). Found P again first s at n (with_partner b left)) e o
 
-pub over_again : {P : List ℕ → Type 0} {shape : Shape} {s : List ℕ} {at n : ℕ} → InShape P shape s at n [] → Walkable shape → 8 ≤ 8 * length s - at
-    → Records (InShape P shape s at n) shape shape.again
-over_again {shape = shape} o walkable h = record { known = over_on o (left_next walkable shape.again walkable.begins) h; there = walkable.begins }
+  pub partner_none : has ≡ false → Found P again first s at n left
+  partner_none e = subst (λ (b : Bool). Found P again first s at n (with_partner b left)) e o
 
--- TURNAROUNDS
+-- the parameter set of a pair is due, of which every number is good; then `left` is left
+module _ {P : List ℕ → Type 0} {again first : List Part} {s : List ℕ} {at n : ℕ} {left : List Part} (o : Found P again first s at n (once F.Parameters ∷ left)) where
+  done : {Q : List ℕ → Type 0} (v : ℕ) → Found Q again first s (at + 8) (n + 1) (after (once F.Parameters ∷ left) v) → Found Q again first s (at + 8) (n + 1) left
+  done {Q} v k = subst (Found Q again first s (at + 8) (n + 1)) (after_parameters left v) k
 
-abbrev pub InTurn : (List ℕ → Type 0) → List ℕ → ℕ → ℕ → List Part → Type 0
-InTurn P s at n = Found P (record_of K.Etd) (record_of K.Etd) s at n
-
-pub turn_none : {P : List ℕ → Type 0} {s : List ℕ} → P [] → InTurn P s 0 0 (left_at 0)
-turn_none {P} {s} also = subst (InTurn P s 0 0) (sym left_first) (found_none also)
-
-pub turn_again : {P : List ℕ → Type 0} {s : List ℕ} {at n : ℕ} → InTurn P s at n [] → 8 ≤ 8 * length s - at → InTurn P s at n (left_at 0)
-turn_again {P} {s} {at} {n} o h = subst (InTurn P s at n) (sym left_first) (over_on o refl h)
-
--- the field of the step is due
-module _ {P : List ℕ → Type 0} {s : List ℕ} {at₀ i₀ at n i : ℕ} {p : Step} (k : Strides (InTurn P s at n) at₀ i₀ at i) (q : Stepped p i) where
-  -- after its number v the step is due that it leads to
-  onto : {Q : List ℕ → Type 0} {m j : ℕ} (v : ℕ) → 1 ≤ p.1 → p.2 ≡ false → j ≡ after_field i p.3 v → InTurn Q s (at + p.1) m (after (left_at i) v)
-      → Strides (InTurn Q s (at + p.1) m) at₀ i₀ (at + p.1) j
-  onto {Q} {m} v some one e f = strides_on k (omega arith) e (subst (InTurn Q s (at + p.1) m) (q.alone one v) f)
-
-  -- or the second field of the pair
-  half : {Q : List ℕ → Type 0} {m : ℕ} (v : ℕ) → p.2 ≡ true → InTurn Q s (at + p.1) m (after (left_at i) v)
-      → InTurn Q s (at + p.1) m (once F.parameters ∷ left_at (after_pair i v))
-  half {Q} {m} v two f = subst (InTurn Q s (at + p.1) m) (q.paired two v) f
-
-  pub step_fits : (n ≤ at) × (at ≤ 8 * length s) × (1 ≤ p.1) × (p.1 ≤ 15)
-  step_fits = field_fits k.known q.next q.wide
-
-  pub step_short : 8 * length s - at < p.1 → read_all K.Etd s ≡ refused R.Bits at
-  step_short = field_short k.known q.next q.wide
-
-  module _ (h : p.1 ≤ 8 * length s - at) {v : ℕ} (ev : v ≡ field_at s at p.1) {x : Value} (ex : x ≡ typed (turn_in p.0) v) where
-    pub step_bad : may_hold x ≡ false → read_all K.Etd s ≡ refused R.Field at
-    step_bad = field_bad k.known q.next q.wide h ev ex
-
-    module _ (b : may_hold x ≡ true) {Q : List ℕ → Type 0} (also : Q (k.known.xs ++ (v ∷ []))) where
-      pub step_on : {j : ℕ} → p.2 ≡ false → j ≡ after_field i p.3 v → Strides (InTurn Q s (at + p.1) (n + 1)) at₀ i₀ (at + p.1) j
-      step_on one e = onto v step_fits.2 one e (field_on k.known q.next q.wide h ev ex b also)
-
-      pub step_half : p.2 ≡ true → InTurn Q s (at + p.1) (n + 1) (once F.parameters ∷ left_at (after_pair i v))
-      step_half two = half v two (field_on k.known q.next q.wide h ev ex b also)
-
-  module _ {room : ℕ} (roomy : Roomy (read_all K.Etd s) room) where
-    pub step_sure : (n ≤ at) × (at + p.1 ≤ 8 * length s) × (1 ≤ p.1) × (p.1 ≤ 15) × (n < room)
-    step_sure = field_sure k.known q.next q.wide roomy
-
-    module _ {v r : ℕ} {x : Value} {Q : List ℕ → Type 0} (ev : v ≡ field_at s at p.1) (ex : x ≡ typed (turn_in p.0) v) (er : r ≡ as_number x) (also : Q (k.known.xs ++ (r ∷ []))) where
-      pub step_stored : {j : ℕ} → p.2 ≡ false → j ≡ after_field i p.3 r → Strides (InTurn Q s (at + p.1) (n + 1)) at₀ i₀ (at + p.1) j
-      step_stored one e = onto r step_fits.2 one e (field_stored k.known q.next q.wide roomy ev ex er also)
-
-      pub half_stored : p.2 ≡ true → InTurn Q s (at + p.1) (n + 1) (once F.parameters ∷ left_at (after_pair i r))
-      half_stored two = half r two (field_stored k.known q.next q.wide roomy ev ex er also)
-
--- the second field of a pair is due, of which every number is good; then `left` is left
-module _ {P : List ℕ → Type 0} {s : List ℕ} {at n : ℕ} {left : List Part} (o : InTurn P s at n (once F.parameters ∷ left)) where
-  done : {Q : List ℕ → Type 0} (v : ℕ) → InTurn Q s (at + 8) (n + 1) (after (once F.parameters ∷ left) v) → InTurn Q s (at + 8) (n + 1) left
-  done {Q} v k = subst (InTurn Q s (at + 8) (n + 1)) (after_parameters left v) k
-
-  pub second_short : 8 * length s - at < 8 → read_all K.Etd s ≡ refused R.Bits at
+  pub second_short : 8 * length s - at < 8 → read_by again first s ≡ refused R.Bits at
   second_short = field_short o (next_parameters left) refl
 
-  pub second_on : {Q : List ℕ → Type 0} → 8 ≤ 8 * length s - at → Q (o.xs ++ (field_at s at 8 ∷ [])) → InTurn Q s (at + 8) (n + 1) left
-  second_on h also = done _ (field_on o (next_parameters left) refl h refl refl refl also)
+  pub second_on : {Q : List ℕ → Type 0} {end : ℕ} → end ≡ at + 8 → 8 ≤ 8 * length s - at → Q (o.xs ++ (field_at s at 8 ∷ [])) → Found Q again first s end (n + 1) left
+  second_on e h also = found_at e refl (done _ (field_on o (next_parameters left) refl h refl refl refl also))
 
-  module _ {room : ℕ} (roomy : Roomy (read_all K.Etd s) room) where
+  module _ {room : ℕ} (roomy : Roomy (read_by again first s) room) where
     pub second_sure : (n ≤ at) × (at + 8 ≤ 8 * length s) × (1 ≤ 8) × (8 ≤ 15) × (n < room)
     second_sure = field_sure o (next_parameters left) refl roomy
 
-    pub second_stored : {v r : ℕ} {x : Value} {Q : List ℕ → Type 0} → v ≡ field_at s at 8 → x ≡ typed F.parameters v → r ≡ as_number x → Q (o.xs ++ (r ∷ []))
-        → InTurn Q s (at + 8) (n + 1) left
+    pub second_stored : {v r : ℕ} {x : Value} {Q : List ℕ → Type 0} → v ≡ field_at s at 8 → x ≡ typed F.Parameters v → r ≡ as_number x → Q (o.xs ++ (r ∷ []))
+        → Found Q again first s (at + 8) (n + 1) left
     second_stored ev ex er also = done _ (field_stored o (next_parameters left) refl roomy ev ex er also)
+
+pub over_again : {P : List ℕ → Type 0} {turns : Bool} {shape : Shape} {s : List ℕ} {at n : ℕ} → InShape P turns shape s at n [] → 8 ≤ 8 * length s - at
+    → Records (InShape P turns shape s at n) turns shape shape.again
+over_again {turns = turns} {shape} o h =
+    let begins = (walkable shape).begins in record { known = over_on o (left_next turns shape shape.again begins) h; there = begins }

@@ -1,6 +1,6 @@
 -- What storing knows of the lent numbers: the first n of them are the numbers found.
 use Prim.Native.Nat.{ℕ, ◌+◌, ◌<◌}
-use mathlib.Core.Path.{◌≡◌, sym, ap, ◌∙◌}
+use mathlib.Core.Path.{◌≡◌, sym, ap, subst, ◌∙◌}
 use mathlib.Core.List.{List, [], ◌∷◌, ◌++◌}
 use native.Mathlib.Numerals.{add-one}
 use lib.ListN.{length, take, set}
@@ -21,3 +21,8 @@ pub stored_ends : {before numbers xs : List ℕ} {n₀ n : ℕ} {o : Outcome (Li
     → Frame before n₀ numbers n → numbers ≡ lent before o
 unfolding lent
 stored_ends {before} {xs = xs} e h k f = frame_over xs f k h ∙ sym (ap (lent before) e)
+
+-- what is known of a run and of two places is known of their equals
+pub moved : (M : List ℕ → ℕ → ℕ → Type 0) {numbers now : List ℕ} {at there n m : ℕ} → now ≡ numbers → there ≡ at → m ≡ n → M numbers at n → M now there m
+moved M {numbers} {now} {at} {there} {n} {m} e f g k =
+    subst (λ (l : List ℕ). M l there m) (sym e) (subst (λ (a : ℕ). M numbers a m) (sym f) (subst (λ (j : ℕ). M numbers at j) (sym g) k))

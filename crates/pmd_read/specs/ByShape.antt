@@ -1,5 +1,5 @@
 -- Inner. The reading of a value whose records are those of a shape.
-use Rattle.std.specs.Prelude.{List, ℕ, suc, ◌*◌, length}
+use Rattle.std.specs.Prelude.{List, Bool, ℕ, suc, ◌*◌, length}
 use Rattle.bits.specs.Bits.{bits}
 use Rattle.refusals.specs.Outcomes.{Outcome}
 use Rattle.pmd.specs.Table.{Part}
@@ -11,5 +11,5 @@ use Rattle.pmd.specs.Shapes.{left_of}
 abbrev pub read_by : List Part → List Part → List ℕ → Outcome (List ℕ)
 read_by again first s = read_from (suc (8 * length s)) again first (bits s) 0
 
-abbrev pub read_shape : Shape → List ℕ → Outcome (List ℕ)
-read_shape shape s = read_by (left_of shape shape.again) (left_of shape 0) s
+abbrev pub read_shape : Bool → Shape → List ℕ → Outcome (List ℕ)
+read_shape turns shape s = read_by (left_of turns shape shape.again) (left_of turns shape 0) s

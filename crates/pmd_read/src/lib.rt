@@ -1,57 +1,71 @@
 #![tactic(auto)]
 // Reads PMD values into lent numbers. A value is judged and counted in a first pass and stored in a second, so that a refusal changes nothing.
-ghost use Rattle.std.specs.Prelude.{◌≡◌, cond, ◌+◌, ◌-◌, ◌*◌, ◌<◌, ◌≤◌, eqb, length};
+ghost use Rattle.std.specs.Prelude.{◌≡◌, cond, ◌+◌, ◌-◌, ◌*◌, ◌<◌, ◌≤◌, eqb, ltb, length};
 ghost use Rattle.bits.specs.Bits.{field_at};
-ghost use Rattle.refusals.specs.declared.Answer.TheVariants as Answers;
+ghost use Rattle.refusals.specs.Refusals.{refused_at};
 ghost use Rattle.refusals.specs.declared.Refusal.TheVariants as R;
 ghost use Rattle.refusals.specs.Outcomes.{answered};
 ghost use Rattle.refusals.specs.Lent.{within, lent, Delivered};
-ghost use Rattle.pmd.specs.declared.Kind.TheVariants as K;
-ghost use Rattle.pmd.specs.Reading.{read_all, fields_read};
-ghost use Rattle.pmd.specs.Shapes.{Walkable, Roomy};
+ghost use Rattle.pmd.specs.Reading.{fields_read};
+ghost use Rattle.pmd.specs.Shapes.{Roomy};
 ghost use Rattle.pmd_read.specs.ByShape.{read_shape};
 
-use pmd::{Named, OVER, PARAMETERS, Shape, TurnField};
-use refusals::{Answer, Refusal};
+use pmd::{Field, Kind, PARAMETERS, Shape};
+use refusals::{Refusal, Refused};
 
-// The answer for a value of n fields whose last `rest` bits, from bit `at` on, are no record: they must be 0.
-fn ended(s: &[u8], at: usize, rest: usize, n: usize) -> Answer
-    requires { (length s.now ≤ 4096) × ((at + rest ≡ 8 * length s.now) × (rest < 8)) }
-    ensures { result ≡ cond (eqb (field_at s.now at rest) 0) (Answers.Done n) (Answers.Refused R.Pad at) }
+// The end of the w bits from bit `at` on, which have to be there.
+fn end_of(s: &[u8], at: usize, w: usize) -> Result<usize, Refused>
+    requires { (length s.now ≤ 4096) × ((at ≤ 8 * length s.now) × (w ≤ 15)) }
+    ensures { result ≡ cond (ltb (8 * length s.now - at) w) (Err (refused_at R.Bits at)) (Ok (at + w)) }
 {
-    if bits::fetch(s, at, rest) == 0 {
-        return Answer::Done(n);
+    if 8 * s.len() - at < w {
+        return Err(Refusal::Bits.at(at));
     }
-    pmd::refused(Refusal::Pad, at)
+    Ok(at + w)
 }
 
-// How many fields a value of this shape has, or what is wrong with it.
-fn count(shape: Shape, s: &[u8]) -> Answer
-    requires { (length s.now ≤ 4096) × Walkable shape }
-    ensures { result ≡ answered length (read_shape shape s.now) }
+// The answer for a value of n fields whose last `rest` bits, from bit `at` on, are no record: they must be 0.
+fn ended(s: &[u8], at: usize, rest: usize, n: usize) -> Result<usize, Refused>
+    requires { (length s.now ≤ 4096) × ((at + rest ≡ 8 * length s.now) × (rest < 8)) }
+    ensures { result ≡ cond (eqb (field_at s.now at rest) 0) (Ok n) (Err (refused_at R.Pad at)) }
+{
+    if bits::fetch(s, at, rest) == 0 {
+        return Ok(n);
+    }
+    Err(Refusal::Pad.at(at))
+}
+
+// How many fields a value of this shape has, or what is wrong with it. A parameter set is any number of its bits.
+// Three loops of their own, since no iterator walks so: how many records there are is known at their end, a flag passes over pieces, and whether a
+// piece has another field is said by the last.
+fn count<const TURNAROUNDS: bool>(shape: Shape, s: &[u8]) -> Result<usize, Refused>
+    requires { length s.now ≤ 4096 }
+    ensures { result ≡ answered length (read_shape TURNAROUNDS shape s.now) }
 {
     let mut at: usize = 0;
     let mut n: usize = 0;
     let mut i: usize = 0;
-    loop {
-        while i < shape.size {
+    'records: loop {
+        'pieces: while i < shape.size {
             let piece = shape.pieces[i];
-            let f = piece.0;
-            let w = piece.1 as usize;
-            let mut more = true;
-            while more {
-                if 8 * s.len() - at < w {
-                    return pmd::refused(Refusal::Bits, at);
+            let width = piece.width as usize;
+            let last = 'fields: loop {
+                let end = end_of(s, at, width)?;
+                let v = bits::fetch(s, at, width);
+                if !piece.field.value(v).holds() {
+                    return Err(Refusal::Field.at(at));
                 }
-                let v = bits::fetch(s, at, w);
-                if !pmd::holds(pmd::value_of(f, v)) {
-                    return pmd::refused(Refusal::Field, at);
-                }
-                at += w;
+                at = end;
                 n += 1;
-                more = pmd::goes_on(piece.2, v);
-            }
-            i += 1;
+                if piece.has_partner::<TURNAROUNDS>() {
+                    at = end_of(s, at, PARAMETERS)?;
+                    n += 1;
+                }
+                if !piece.goes_on(v) {
+                    break v;
+                }
+            };
+            i += 1 + piece.passes::<TURNAROUNDS>(last);
         }
         let rest = 8 * s.len() - at;
         if rest < 8 {
@@ -61,28 +75,33 @@ fn count(shape: Shape, s: &[u8]) -> Answer
     }
 }
 
-// Stores the fields of a value of this shape that was counted and has room.
-fn fill(shape: Shape, s: &[u8], numbers: &mut [u32])
-    requires { (length s.now ≤ 4096) × (Walkable shape × Roomy (read_shape shape s.now) (length numbers.old)) }
-    ensures { numbers.new ≡ lent numbers.old (read_shape shape s.now) }
+// Stores the fields of a value of this shape that was counted and has room, in the loops of `count`.
+fn fill<const TURNAROUNDS: bool>(shape: Shape, s: &[u8], numbers: &mut [u32])
+    requires { (length s.now ≤ 4096) × Roomy (read_shape TURNAROUNDS shape s.now) (length numbers.old) }
+    ensures { numbers.new ≡ lent numbers.old (read_shape TURNAROUNDS shape s.now) }
 {
     let mut at: usize = 0;
     let mut n: usize = 0;
     let mut i: usize = 0;
-    loop {
-        while i < shape.size {
+    'records: loop {
+        'pieces: while i < shape.size {
             let piece = shape.pieces[i];
-            let f = piece.0;
-            let w = piece.1 as usize;
-            let mut more = true;
-            while more {
-                let v = pmd::number_of(pmd::value_of(f, bits::fetch(s, at, w)));
+            let width = piece.width as usize;
+            let last = 'fields: loop {
+                let v = u32::from(piece.field.value(bits::fetch(s, at, width)));
                 numbers[n] = v;
-                at += w;
+                at += width;
                 n += 1;
-                more = pmd::goes_on(piece.2, v);
-            }
-            i += 1;
+                if piece.has_partner::<TURNAROUNDS>() {
+                    numbers[n] = u32::from(Field::Parameters.value(bits::fetch(s, at, PARAMETERS)));
+                    at += PARAMETERS;
+                    n += 1;
+                }
+                if !piece.goes_on(v) {
+                    break v;
+                }
+            };
+            i += 1 + piece.passes::<TURNAROUNDS>(last);
         }
         if 8 * s.len() - at < 8 {
             return;
@@ -92,129 +111,33 @@ fn fill(shape: Shape, s: &[u8], numbers: &mut [u32])
 }
 
 // Reads a value of this shape as `pmd_read` does.
-fn read_row(shape: Shape, value: &[u8], numbers: &mut [u32]) -> Answer
-    requires { (length value.now ≤ 4096) × Walkable shape }
-    ensures { Delivered (within (length numbers.old) (read_shape shape value.now)) numbers.old result numbers.new }
-{
-    let counted = count(shape, value);
-    let Answer::Done(n) = counted else {
-        return counted;
-    };
-    if numbers.len() < n {
-        return pmd::refused(Refusal::NoRoom, 0);
-    }
-    fill(shape, value, &mut *numbers);
-    Answer::Done(n)
-}
-
-// How many fields the turnarounds of a value have, or what is wrong with them. A parameter set is any number of its bits.
-fn count_turnarounds(s: &[u8]) -> Answer
-    requires { length s.now ≤ 4096 }
-    ensures { result ≡ answered length (read_all K.Etd s.now) }
-{
-    let steps = pmd::turnaround();
-    let mut at: usize = 0;
-    let mut n: usize = 0;
-    let mut i: usize = 0;
-    loop {
-        while i < OVER {
-            let step = steps.all[i];
-            let f = step.0;
-            let w = step.1 as usize;
-            if 8 * s.len() - at < w {
-                return pmd::refused(Refusal::Bits, at);
-            }
-            let v = bits::fetch(s, at, w);
-            if !pmd::holds(pmd::turn_value(f, v)) {
-                return pmd::refused(Refusal::Field, at);
-            }
-            at += w;
-            n += 1;
-            if step.2 {
-                if 8 * s.len() - at < PARAMETERS {
-                    return pmd::refused(Refusal::Bits, at);
-                }
-                at += PARAMETERS;
-                n += 1;
-                i = pmd::after_pair(i, v);
-            } else {
-                i = pmd::after_field(i, step.3, v);
-            }
-        }
-        let unread = 8 * s.len() - at;
-        if unread < 8 {
-            return ended(s, at, unread, n);
-        }
-        i = 0;
-    }
-}
-
-// Stores the fields of turnarounds that were counted and have room.
-fn fill_turnarounds(s: &[u8], numbers: &mut [u32])
-    requires { (length s.now ≤ 4096) × Roomy (read_all K.Etd s.now) (length numbers.old) }
-    ensures { numbers.new ≡ lent numbers.old (read_all K.Etd s.now) }
-{
-    let steps = pmd::turnaround();
-    let mut at: usize = 0;
-    let mut n: usize = 0;
-    let mut i: usize = 0;
-    loop {
-        while i < OVER {
-            let step = steps.all[i];
-            let f = step.0;
-            let w = step.1 as usize;
-            let v = pmd::number_of(pmd::turn_value(f, bits::fetch(s, at, w)));
-            numbers[n] = v;
-            at += w;
-            n += 1;
-            if step.2 {
-                let second = bits::fetch(s, at, PARAMETERS);
-                numbers[n] = pmd::number_of(pmd::turn_value(TurnField::Parameters, second));
-                at += PARAMETERS;
-                n += 1;
-                i = pmd::after_pair(i, v);
-            } else {
-                i = pmd::after_field(i, step.3, v);
-            }
-        }
-        if 8 * s.len() - at < 8 {
-            return;
-        }
-        i = 0;
-    }
-}
-
-// Reads turnarounds as `pmd_read` does.
-fn read_turnarounds(value: &[u8], numbers: &mut [u32]) -> Answer
+fn read_by<const TURNAROUNDS: bool>(
+    shape: Shape,
+    value: &[u8],
+    numbers: &mut [u32],
+) -> Result<usize, Refused>
     requires { length value.now ≤ 4096 }
-    ensures { Delivered (within (length numbers.old) (read_all K.Etd value.now)) numbers.old result numbers.new }
+    ensures { Delivered (within (length numbers.old) (read_shape TURNAROUNDS shape value.now)) numbers.old result numbers.new }
 {
-    let counted = count_turnarounds(value);
-    let Answer::Done(size) = counted else {
-        return counted;
-    };
-    if numbers.len() < size {
-        return pmd::refused(Refusal::NoRoom, 0);
+    let n = count::<TURNAROUNDS>(shape, value)?;
+    if numbers.len() < n {
+        return Err(Refusal::NoRoom.at(0));
     }
-    fill_turnarounds(value, &mut *numbers);
-    Answer::Done(size)
+    fill::<TURNAROUNDS>(shape, value, &mut *numbers);
+    Ok(n)
 }
 
 // Reads a value of this kind into `numbers`, and answers how many numbers it is: all its fields in order, terminators and characters
 // included. Numbers after them do not change; a refusal changes none.
-pub fn pmd_read(kind: u32, value: &[u8], numbers: &mut [u32]) -> Answer
+pub fn pmd_read(kind: u32, value: &[u8], numbers: &mut [u32]) -> Result<usize, Refused>
     ensures { Delivered (within (length numbers.old) (fields_read kind value.now)) numbers.old result numbers.new }
 {
-    let Named::Known(known) = pmd::kind_of(kind) else {
-        return pmd::refused(Refusal::Kind, 0);
-    };
+    let kind = Kind::try_from(kind)?;
     if 4096 < value.len() {
-        return pmd::refused(Refusal::Big, 0);
+        return Err(Refusal::Big.at(0));
     }
-    let shape = pmd::shape_of(known);
-    // Turnarounds alone have no pieces.
-    if 0 < shape.size {
-        return read_row(shape, value, &mut *numbers);
+    match kind {
+        Kind::Etd => read_by::<true>(pmd::shape_of(kind), value, &mut *numbers),
+        _ => read_by::<false>(pmd::shape_of(kind), value, &mut *numbers),
     }
-    read_turnarounds(value, &mut *numbers)
 }

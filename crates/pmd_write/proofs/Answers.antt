@@ -1,51 +1,43 @@
 -- What is written by the kind's number, and what is delivered of numbers that were weighed.
 use Prim.Native.Nat.{ℕ, ◌+◌, ◌*◌, ◌/◌, ◌<◌, ◌≤◌}
-use mathlib.Core.Path.{◌≡◌, sym, ap, ap₂, subst, ◌∙◌}
+use mathlib.Core.Path.{◌≡◌, sym, ap, subst, ◌∙◌}
 use mathlib.Core.List.{List}
 use native.Mathlib.Omega.{arith}
 use lib.Dec.{leb}
 use lib.ListN.{length}
 use borrow.Author.Tests.{leb-false}
 use Rattle.runs.proofs.Cases.{split}
-use Rattle.refusals.specs.Outcomes.{Outcome, fine, refused, and_then, answered}
+use Rattle.refusals.specs.Outcomes.{Outcome, fine, refused, and_then, answered, Answer}
 use Rattle.refusals.specs.Lent.{within, Delivered}
-use Rattle.refusals.specs.declared.Refusal.{Refusal}
 use Rattle.refusals.specs.declared.Refusal.TheVariants as R
-use Rattle.refusals.specs.declared.Answer.{Answer}
-use Rattle.refusals.specs.declared.Answer.TheVariants as A
+use Rattle.refusals.specs.Refusals.{refused_at}
+use Rattle.refusals.specs.declared.Refused.{Refused}
+use Rattle.std.specs.Prelude.{Option, Some, None, Ok, Err}
 use Rattle.refusals.proofs.Lent.{fine_within, none_within, refused_was, done_was}
 use Rattle.pmd.specs.declared.Kind.{Kind}
-use Rattle.pmd.specs.declared.Named.{Named}
-use Rattle.pmd.specs.declared.Named.TheVariants as N
-use Rattle.pmd.specs.declared.Shape.{Shape}
-use Rattle.pmd.specs.Table.{Part, record_of, kind_of}
+use Rattle.pmd.specs.Table.{record_of, kind_of}
 use Rattle.pmd.specs.Records.{first_record}
 use Rattle.pmd.specs.Writing.{bytes_of_bits, packed, packing, write_all, write_as, fields_written}
 use Rattle.pmd.specs.Shapes.{Roomy}
 use Rattle.pmd.proofs.Packed.{length_packed}
 use Rattle.pmd.proofs.Trip.{write_below}
-use Rattle.pmd.proofs.Shapes.{ShapeFor}
 use Rattle.pmd.proofs.Answers.{delivers_none, delivers_noroom, delivers_all}
-use Rattle.pmd_write.specs.ByShape.{write_by, write_shape, weight}
+use Rattle.pmd_write.specs.ByShape.{weight}
 
 abbrev pub limited : Outcome (List ℕ) → Outcome (List ℕ)
 limited o = within 4096 (packing o)
 
-module _ (kind : ℕ) (vs : List ℕ) {named : Named} (e : named ≡ kind_of kind) where
-  as_named : {other : Named} → named ≡ other → fields_written kind vs ≡ write_as other vs
-  as_named k = ap (λ (n : Named). write_as n vs) (sym e ∙ k)
+module _ (kind : ℕ) (vs : List ℕ) where
+  as_named : {o : Option Kind} → kind_of kind ≡ o → fields_written kind vs ≡ write_as o vs
+  as_named k = ap (λ (o : Option Kind). write_as o vs) k
 
-  pub write_unknown : named ≡ N.Unknown → fields_written kind vs ≡ refused R.Kind 0
+  pub write_unknown : kind_of kind ≡ None → fields_written kind vs ≡ refused R.Kind 0
   unfolding write_as
   write_unknown k = as_named k
 
-  pub write_known : {known : Kind} → named ≡ N.Known known → fields_written kind vs ≡ limited (write_all known vs)
+  pub write_known : {known : Kind} → kind_of kind ≡ Some known → fields_written kind vs ≡ limited (write_all known vs)
   unfolding write_as
   write_known k = as_named k
-
--- numbers are written alike by a kind and by its shape
-pub by_shape : {kind : Kind} {shape : Shape} → ShapeFor kind shape → (vs : List ℕ) → write_shape shape vs ≡ write_all kind vs
-by_shape holds vs = ap₂ (λ (again first : List Part). write_by again first vs) holds.again holds.first
 
 -- a weight that a value may have is that of the bits, and one that is too much is that of bits that are too many
 weight_is : (vs bs : List ℕ) (total : ℕ) → weight vs bs ≡ total → total ≤ 32768 → length bs ≡ total
@@ -61,12 +53,12 @@ module _ (kind : Kind) (vs : List ℕ) {weighed : Answer} (c : weighed ≡ answe
   abbrev value : Outcome (List ℕ)
   value = limited (write_all kind vs)
 
-  pub weighed_refused : {before : List ℕ} {why : Refusal} {place : ℕ} → weighed ≡ A.Refused why place → Delivered (within (length before) value) before weighed before
+  pub weighed_refused : {before : List ℕ} {e : Refused} {r : Answer} → weighed ≡ Err e → r ≡ Err e → Delivered (within (length before) value) before r before
   unfolding and_then
-  weighed_refused h = delivers_none (ap limited (refused_was (weight vs) c h)) h
+  weighed_refused h k = delivers_none (ap limited (refused_was (weight vs) c h)) k
 
-  module _ {total : ℕ} (done : weighed ≡ A.Done total) where
-    pub weighed_big : {before : List ℕ} {r : Answer} → 32768 < total → r ≡ A.Refused R.NoRoom 0 → Delivered (within (length before) value) before r before
+  module _ {total : ℕ} (done : weighed ≡ Ok total) where
+    pub weighed_big : {before : List ℕ} {r : Answer} → 32768 < total → r ≡ Err (refused_at R.NoRoom 0) → Delivered (within (length before) value) before r before
     unfolding and_then
     weighed_big l =
         let x = done_was (weight vs) c done in
@@ -88,7 +80,7 @@ module _ (kind : Kind) (vs : List ℕ) {weighed : Answer} (c : weighed ≡ answe
       weighed_roomy room l = let x = bytes in record { list = x.0; is = x.1; fits = omega (arith, x.2) }
 
       module _ {before : List ℕ} {r : Answer} where
-        pub weighed_noroom : length before < (total + 7) / 8 → r ≡ A.Refused R.NoRoom 0 → Delivered (within (length before) value) before r before
+        pub weighed_noroom : length before < (total + 7) / 8 → r ≡ Err (refused_at R.NoRoom 0) → Delivered (within (length before) value) before r before
         weighed_noroom l h = delivers_noroom all (omega (arith, size)) h
 
         pub weighed_all : {after : List ℕ} → (total + 7) / 8 ≤ length before → Delivered (packing (write_all kind vs)) before r after → Delivered (within (length before) value) before r after

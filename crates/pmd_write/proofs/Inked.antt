@@ -1,29 +1,29 @@
 -- What the pen has written: the bits so far. A field goes on them, and closing the pen leaves the bytes that they are packed to.
 use Prim.Native.Nat.{ℕ, ◌+◌, ◌*◌, ◌^◌, ◌<◌, ◌≤◌}
 use mathlib.Core.Path.{◌≡◌, sym, ap, subst, ◌∙◌}
-use mathlib.Core.Bool.{Bool, true}
+use mathlib.Core.Bool.{Bool}
 use mathlib.Core.List.{List, [], ◌++◌}
 use native.Mathlib.Omega.{arith}
-use lib.Dec.{lit<}
 use lib.ListN.{length, take, replicate, get_or}
 use lib.Seq.{length-take-le}
 use Rattle.runs.specs.Digits.{digits, Bytes}
 use Rattle.runs.specs.Over.{Wrote}
 use Rattle.runs.proofs.Below.{below_take}
-use Rattle.bits.specs.Pen.{penned, last_byte, lacking, PenOk, PenFits, PutField}
+use Rattle.bits.specs.Pen.{penned, last_byte, lacking, PenNew, PenOk, PenFits, PutField}
 use Rattle.bits.specs.declared.Pen.{Pen}
-use Rattle.bits.proofs.Penned.{pen_start, length_penned, pen_on, pen_moved, pen_length, pen_rest, pen_ok, pen_closed, closed_size, closed_length, closed_rest}
+use Rattle.bits.proofs.Penned.{pen_start, pen_new_ok, length_penned, pen_on, pen_moved, pen_length, pen_rest, pen_ok, pen_closed, closed_size, closed_length, closed_rest}
 use Rattle.refusals.specs.Outcomes.{Outcome, fine, and_then}
-use Rattle.refusals.specs.declared.Answer.TheVariants as A
+use Rattle.std.specs.Prelude.{Ok}
 use Rattle.refusals.specs.Lent.{Delivered}
-use Rattle.pmd.specs.Fields.{Field}
+use Rattle.pmd.specs.declared.Field.{Field}
 use Rattle.pmd.specs.declared.Piece.{Piece}
 use Rattle.pmd.specs.declared.Shape.{Shape}
 use Rattle.pmd.specs.declared.Value.{Value}
 use Rattle.pmd.specs.Table.{width_of, typed, Part}
 use Rattle.pmd.specs.Records.{fits, after}
 use Rattle.pmd.specs.Writing.{packed, packing}
-use Rattle.pmd.specs.Shapes.{field_in, as_number, goes_on, Roomy}
+use Rattle.pmd.specs.Pieces.{as_number}
+use Rattle.pmd.specs.Shapes.{Roomy}
 use Rattle.refusals.proofs.Lent.{delivered_fine}
 use Rattle.pmd.proofs.Fields.{number_value}
 use Rattle.pmd.proofs.Records.{fits_lt}
@@ -32,14 +32,14 @@ use Rattle.pmd.proofs.Packed.{packed_one}
 use Rattle.pmd.proofs.Walk.{Fields}
 use Rattle.pmd.proofs.Frame.{Frame, frame_then, frame_over}
 use Rattle.pmd_write.specs.ByShape.{write_by, write_shape}
-use Rattle.pmd_write.proofs.Laid.{Run, number_narrow, number_on, number_there, number_good, number_room, InShape, due, due_next, due_after}
+use Rattle.pmd_write.proofs.Laid.{Run, number_narrow, number_on, number_there, number_good, number_room, InShape, Numbered, due_next, due_after}
 
 pub record Inked (pen : Pen) (out bs : List ℕ) : Type 0 where
   pub ok : PenOk pen out
   pub wrote : penned pen out ≡ bs
 
-pub inked_begins : (out : List ℕ) → Inked (record { at = 0; count = 0; held = 0 }) out []
-inked_begins out = record { ok = record { few = lit< tt; small = lit< tt; inside = omega arith }; wrote = pen_start out }
+pub inked_begins : {pen : Pen} → PenNew pen → (out : List ℕ) → Inked pen out []
+inked_begins new out = record { ok = pen_new_ok new out; wrote = pen_start new out }
 
 pub inked_long : {pen : Pen} {out bs : List ℕ} → Inked pen out bs → length bs ≡ 8 * pen.at + pen.count
 inked_long k = ap length (sym k.wrote) ∙ length_penned k.ok
@@ -64,20 +64,19 @@ module _ {pen : Pen} {out : List ℕ} {again first : List Part} {vs : List ℕ} 
       (number_on o next wide (number_there o next wide roomy) (number_good o next wide roomy) (subst (λ (v : ℕ). Inked q inked (o.bs ++ digits 2 w v)) is on))
 
 -- a number of a piece is due
-module _ {pen : Pen} {out : List ℕ} {shape : Shape} {vs : List ℕ} {n₀ n i room : ℕ} {p : Piece} {more : Bool} (f : Fields (InShape (Inked pen out) shape vs n) shape i p n₀ n more) (goes : more ≡ true) (roomy : Roomy (write_shape shape vs) room) {x : Value} {r : ℕ} (ex : x ≡ typed (field_in p.0) (get_or vs n 0)) (er : r ≡ as_number x) where
-  pub due_fits : room ≤ 8 * length out → PenFits pen p.1 r out
-  due_fits = number_fits (due f goes) (due_next f goes) f.wide roomy ex er
+module _ {pen : Pen} {out : List ℕ} {turns : Bool} {shape : Shape} {vs : List ℕ} {n₀ n i room : ℕ} {p : Piece} (f : Fields (InShape (Inked pen out) turns shape vs n) turns shape i p n₀ n) (roomy : Roomy (write_shape turns shape vs) room) {x : Value} {r : ℕ} (ex : x ≡ typed p.field (get_or vs n 0)) (er : r ≡ as_number x) where
+  pub due_fits : room ≤ 8 * length out → PenFits pen p.width r out
+  due_fits = number_fits f.known (due_next f) f.wide roomy ex er
 
-  pub due_put : {q : Pen} {inked : List ℕ} {goes : Bool} → PenFits pen p.1 r out → PutField pen p.1 r out q inked → goes ≡ goes_on p.2 r
-      → Fields (InShape (Inked q inked) shape vs (n + 1)) shape i p n₀ (n + 1) goes
-  due_put fit put e = due_after f goes r e (number_put (due f goes) (due_next f goes) f.wide roomy ex er fit put)
+  pub due_put : {q : Pen} {inked : List ℕ} → PenFits pen p.width r out → PutField pen p.width r out q inked → Numbered (Inked q inked) turns shape vs (n + 1) i p r
+  due_put fit put = due_after f r (number_put f.known (due_next f) f.wide roomy ex er fit put)
 
 pub frame_put : {pen q : Pen} {w v : ℕ} {out after : List ℕ} → PenFits pen w v out → PutField pen w v out q after → Frame out pen.at after q.at
-frame_put fits put = record { since = omega (arith, pen_moved fits put, (pen_ok fits put).few); long = pen_length fits put; rest = pen_rest fits put }
+frame_put {q = q} fits put = record { since = omega (arith, pen_moved fits put, q.few); long = pen_length fits put; rest = pen_rest fits put }
 
 -- the pen is closed
 pub inked_ends : {before : List ℕ} {n₀ : ℕ} {pen : Pen} {out bs closed : List ℕ} {r : ℕ} {o : Outcome (List ℕ)} → o ≡ fine bs → Inked pen out bs
-    → Frame before n₀ out pen.at → Wrote out pen.at (last_byte pen) r closed → Bytes closed → Delivered (packing o) before (A.Done r) closed
+    → Frame before n₀ out pen.at → Wrote out pen.at (last_byte pen) r closed → Bytes closed → Delivered (packing o) before (Ok r) closed
 unfolding and_then
 inked_ends {before} {n₀} {pen} {out} {bs} {closed} {r} {o} e k f done bytes =
     let size = closed_size k.ok done in
@@ -87,4 +86,4 @@ inked_ends {before} {n₀} {pen} {out} {bs} {closed} {r} {o} e k f done bytes =
     let whole : packed bs ≡ take r closed =
     packed_one (take r closed) bs (lacking pen) (below_take 256 r closed bytes) ((pen_closed k.ok done).0 ∙ ap (λ (l : List ℕ). l ++ replicate (lacking pen) 0) k.wrote) short in
     let long : length (packed bs) ≡ r = ap length whole ∙ length-take-le r closed (omega (arith, k.ok.inside)) in
-    delivered_fine (ap packing e) (ap A.Done (sym long)) (frame_over (packed bs) (frame_then f last) (sym whole) long)
+    delivered_fine (ap packing e) (ap (λ (m : ℕ). Ok m) (sym long)) (frame_over (packed bs) (frame_then f last) (sym whole) long)

@@ -9,26 +9,27 @@ use lib.Dec.{leb}
 use lib.ListN.{length, drop, get_or, length-append, drop_of_length-le}
 use borrow.Author.Tests.{leb-true, leb-false}
 use Rattle.runs.specs.Digits.{digits}
-use Rattle.runs.proofs.Cases.{split}
+use Rattle.runs.proofs.Cases.{split, absurd_eq}
 use Rattle.runs.proofs.Digits.{length_digits}
 use Rattle.runs.proofs.Stands.{here}
-use Rattle.refusals.specs.Outcomes.{Outcome, fine, refused}
+use Rattle.std.specs.Prelude.{Ok, Err}
+use Rattle.refusals.specs.Outcomes.{Outcome, fine, refused, Answer}
+use Rattle.refusals.specs.Refusals.{refused_at}
+use Rattle.refusals.specs.declared.Refused.{Refused}
 use Rattle.refusals.specs.Lent.{prepend}
 use Rattle.refusals.specs.declared.Refusal.TheVariants as R
-use Rattle.pmd.specs.Fields.{Field}
-use Rattle.pmd.specs.Fields as F
-use Rattle.pmd.specs.declared.Kind.TheVariants as K
+use Rattle.pmd.specs.declared.Field.{Field}
+use Rattle.pmd.specs.declared.Field.TheVariants as F
 use Rattle.pmd.specs.declared.Piece.{Piece}
 use Rattle.pmd.specs.declared.Shape.{Shape}
-use Rattle.pmd.specs.declared.Step.{Step}
-use Rattle.pmd.specs.Table.{width_of, Part, once, record_of}
+use Rattle.pmd.specs.Table.{width_of, Part, once}
 use Rattle.pmd.specs.Records.{field_of, fits, width, takes, after, closed, opened}
 use Rattle.pmd.specs.Writing.{write_from}
-use Rattle.pmd.specs.Shapes.{field_in, part_of, goes_on, onward, left_of, Walkable, after_pair, after_field, Roomy}
+use Rattle.pmd.specs.Pieces.{has_partner}
+use Rattle.pmd.specs.Shapes.{part_of, left_of, Roomy}
 use Rattle.pmd.proofs.Fields.{narrow}
-use Rattle.pmd.proofs.Next.{Next, next_piece, after_piece}
-use Rattle.pmd.proofs.Turnarounds.{left_at, left_first, Stepped, after_parameters}
-use Rattle.pmd.proofs.Walk.{Records, Fields, left_next, fields_open, fields_on}
+use Rattle.pmd.proofs.Next.{Next, next_piece, after_parameters, after_piece, onward, with_partner}
+use Rattle.pmd.proofs.Walk.{Records, Fields, walkable, left_next}
 use Rattle.pmd.proofs.Begun.{Begun, begun_none, begun_on, begun_as, begun_refused, begun_ends, begun_fits, roomy_never}
 use Rattle.pmd_write.specs.ByShape.{write_by, write_shape, weight}
 
@@ -80,6 +81,23 @@ pub record Run (P : List ℕ → Type 0) (again first : List Part) (vs : List �
 pub run_none : {P : List ℕ → Type 0} {again first : List Part} {vs : List ℕ} → P [] → Run P again first vs 0 first
 run_none also = record { bs = []; also = also; begun = begun_none _ }
 
+-- the number n of a list, which a field takes, or what is wrong with it
+abbrev pub taken_of : List ℕ → ℕ → Field → Answer
+taken_of vs n f =
+    cond (leb (length vs) n) (Err (refused_at R.Bits n)) (cond (fits f (get_or vs n 0)) (Ok (get_or vs n 0)) (Err (refused_at R.Field n)))
+
+pub taken_was : (vs : List ℕ) (n : ℕ) (f : Field) {v : ℕ} → Ok v ≡ taken_of vs n f → (n < length vs) × (v ≡ get_or vs n 0) × (fits f v ≡ true)
+taken_was vs n f {v} e =
+    split (leb (length vs) n)
+    (λ l. let no : ◌≡◌ {A = Answer} (Ok v) (Err (refused_at R.Bits n)) = simp l at e in absurd_eq (cc))
+    (λ l.
+    split (fits f (get_or vs n 0))
+    (λ b.
+    let is : ◌≡◌ {A = Answer} (Ok v) (Ok (get_or vs n 0)) = simp (l, b) at e in
+    let same : v ≡ get_or vs n 0 = cc in
+    (leb-false _ _ l, same, ap (fits f) same ∙ b))
+    (λ b. let no : ◌≡◌ {A = Answer} (Ok v) (Err (refused_at R.Field n)) = simp (l, b) at e in absurd_eq (cc)))
+
 -- where the number of a field of w bits is next
 module _ {P : List ℕ → Type 0} {again first : List Part} {vs : List ℕ} {n w : ℕ} {left : List Part} {f : Field} (o : Run P again first vs n left) (next : Next f left) (wide : w ≡ width_of f) where
   pub number_narrow : w ≤ 15
@@ -102,6 +120,30 @@ module _ {P : List ℕ → Type 0} {again first : List Part} {vs : List ℕ} {n 
 
       pub number_on : {Q : List ℕ → Type 0} → Q (o.bs ++ digits 2 w (get_or vs n 0)) → Run Q again first vs (n + 1) (after left (get_or vs n 0))
       number_on also = record { bs = _; also = also; begun = begins }
+
+  -- it is refused, or is taken
+  pub number_refused : {r : Refused} → Err r ≡ taken_of vs n f → write_by again first vs ≡ refused r.why r.place
+  number_refused {r} e =
+      let as_is : Refused → Outcome (List ℕ) = λ (q : Refused). refused q.why q.place in
+      split (leb (length vs) n)
+      (λ l.
+      let is : ◌≡◌ {A = Answer} (Err r) (Err (refused_at R.Bits n)) = simp l at e in
+      let same : refused_at R.Bits n ≡ r = cc in
+      number_short (leb-true _ _ l) ∙ ap as_is same)
+      (λ l.
+      split (fits f (get_or vs n 0))
+      (λ b. let no : ◌≡◌ {A = Answer} (Err r) (Ok (get_or vs n 0)) = simp (l, b) at e in absurd_eq (cc))
+      (λ b.
+      let is : ◌≡◌ {A = Answer} (Err r) (Err (refused_at R.Field n)) = simp (l, b) at e in
+      let same : refused_at R.Field n ≡ r = cc in
+      number_bad (leb-false _ _ l) b ∙ ap as_is same))
+
+  pub number_taken : {v : ℕ} → Ok v ≡ taken_of vs n f → {Q : List ℕ → Type 0} → Q (o.bs ++ digits 2 w v) → Run Q again first vs (n + 1) (after left v)
+  number_taken {v} e {Q} also =
+      let t = taken_was vs n f e in
+      let is = t.1 in
+      subst (λ (m : ℕ). Run Q again first vs (n + 1) (after left m)) (sym is)
+      (number_on t.0 (ap (fits f) (sym is) ∙ t.2) (subst (λ (m : ℕ). Q (o.bs ++ digits 2 w m)) is also))
 
   -- in a list whose bits have room the number is there and is taken, and its bits have room
   module _ {room : ℕ} (roomy : Roomy (write_by again first vs) room) where
@@ -131,69 +173,58 @@ module _ {P : List ℕ → Type 0} {again first : List Part} {vs : List ℕ} {n 
         begun = begun_as o.begun (ap (λ (l : List ℕ). write_from again [] l n) l ∙ next ∙ sym (ap (λ (l : List ℕ). write_from again again l n) l));
       }
 
--- FIELDS IN A ROW
+-- THE FIELDS OF A PIECE
 
-abbrev pub InShape : (List ℕ → Type 0) → Shape → List ℕ → ℕ → List Part → Type 0
-InShape P shape vs n = Run P (left_of shape shape.again) (left_of shape 0) vs n
+abbrev pub InShape : (List ℕ → Type 0) → Bool → Shape → List ℕ → ℕ → List Part → Type 0
+InShape P turns shape vs n = Run P (left_of turns shape shape.again) (left_of turns shape 0) vs n
+
+-- what is left behind the piece i
+abbrev pub behind : Bool → Shape → ℕ → Piece → ℕ → List Part
+behind turns shape i p v = onward turns p (left_of turns shape (i + 1)) v
+
+-- the piece i had the number v; its partner is due, if it has one
+abbrev pub Numbered : (List ℕ → Type 0) → Bool → Shape → List ℕ → ℕ → ℕ → Piece → ℕ → Type 0
+Numbered P turns shape vs n i p v = InShape P turns shape vs n (with_partner (has_partner turns p.stands) (behind turns shape i p v))
 
 -- a number of the piece is due
-module _ {P : List ℕ → Type 0} {shape : Shape} {vs : List ℕ} {n₀ n i : ℕ} {p : Piece} {more : Bool} (f : Fields (InShape P shape vs n) shape i p n₀ n more) (goes : more ≡ true) where
-  pub due : InShape P shape vs n (part_of p ∷ left_of shape (i + 1))
-  due = fields_open f goes
+module _ {P : List ℕ → Type 0} {turns : Bool} {shape : Shape} {vs : List ℕ} {n₀ n i : ℕ} {p : Piece} (f : Fields (InShape P turns shape vs n) turns shape i p n₀ n) where
+  pub due_next : Next p.field (part_of turns p ∷ left_of turns shape (i + 1))
+  due_next = next_piece turns p (left_of turns shape (i + 1))
 
-  pub due_next : Next (field_in p.0) (part_of p ∷ left_of shape (i + 1))
-  due_next = next_piece p (left_of shape (i + 1))
+  -- after the number v there is its partner, if it has one
+  pub due_after : {Q : List ℕ → Type 0} (v : ℕ) → InShape Q turns shape vs (n + 1) (after (part_of turns p ∷ left_of turns shape (i + 1)) v)
+      → Numbered Q turns shape vs (n + 1) i p v
+  due_after {Q} v k = subst (InShape Q turns shape vs (n + 1)) (after_piece turns p (left_of turns shape (i + 1)) v) k
 
-  -- after the number v the piece goes on or does not
-  pub due_after : {Q : List ℕ → Type 0} {goes : Bool} (v : ℕ) → goes ≡ goes_on p.2 v
-      → InShape Q shape vs (n + 1) (after (part_of p ∷ left_of shape (i + 1)) v) → Fields (InShape Q shape vs (n + 1)) shape i p n₀ (n + 1) goes
-  due_after {Q = Q} v e k =
-      let left = left_of shape (i + 1) in
-      fields_on f (omega arith) (subst (InShape Q shape vs (n + 1)) (after_piece p left v ∙ ap (onward p left) (sym e)) k)
+  pub due_narrow : p.width ≤ 15
+  due_narrow = number_narrow f.known due_next f.wide
 
-  pub due_narrow : p.1 ≤ 15
-  due_narrow = number_narrow due due_next f.wide
+  pub due_refused : {r : Refused} → Err r ≡ taken_of vs n p.field → write_shape turns shape vs ≡ refused r.why r.place
+  due_refused e = number_refused f.known due_next f.wide e
 
-  pub due_short : length vs ≤ n → write_shape shape vs ≡ refused R.Bits n
-  due_short = number_short due due_next f.wide
+  pub due_taken : {v : ℕ} → Ok v ≡ taken_of vs n p.field → {Q : List ℕ → Type 0} → Q (f.known.bs ++ digits 2 p.width v) → Numbered Q turns shape vs (n + 1) i p v
+  due_taken {v} e also = due_after v (number_taken f.known due_next f.wide e also)
 
-  module _ (h : n < length vs) where
-    pub due_bad : fits (field_in p.0) (get_or vs n 0) ≡ false → write_shape shape vs ≡ refused R.Field n
-    due_bad = number_bad due due_next f.wide h
+  pub due_there : {room : ℕ} → Roomy (write_shape turns shape vs) room → n < length vs
+  due_there = number_there f.known due_next f.wide
 
-    pub due_on : fits (field_in p.0) (get_or vs n 0) ≡ true → {goes : Bool} {Q : List ℕ → Type 0} → goes ≡ goes_on p.2 (get_or vs n 0)
-        → Q (due.bs ++ digits 2 p.1 (get_or vs n 0)) → Fields (InShape Q shape vs (n + 1)) shape i p n₀ (n + 1) goes
-    due_on b e also = due_after (get_or vs n 0) e (number_on due due_next f.wide h b also)
+-- a partner is due, or is not
+module _ {P : List ℕ → Type 0} {again first : List Part} {vs : List ℕ} {n : ℕ} {has : Bool} {left : List Part} (o : Run P again first vs n (with_partner has left)) where
+  pub partner_due : has ≡ true → Run P again first vs n (once F.Parameters ∷ left)
+  partner_due e = subst (λ (b : Bool). Run P again first vs n (with_partner b left)) e o
 
-  pub due_there : {room : ℕ} → Roomy (write_shape shape vs) room → n < length vs
-  due_there = number_there due due_next f.wide
+  pub partner_none : has ≡ false → Run P again first vs n left
+  partner_none e = subst (λ (b : Bool). Run P again first vs n (with_partner b left)) e o
 
-pub over_again : {P : List ℕ → Type 0} {shape : Shape} {vs : List ℕ} {n : ℕ} → InShape P shape vs n [] → Walkable shape → n < length vs
-    → Records (InShape P shape vs n) shape shape.again
-over_again {shape = shape} o walkable h = record { known = over_on o (left_next walkable shape.again walkable.begins) h; there = walkable.begins }
+-- after the parameter set of a pair
+pub after_second : {P : List ℕ → Type 0} {again first : List Part} {vs : List ℕ} {n : ℕ} {left : List Part} (v : ℕ) → Run P again first vs n (after (once F.Parameters ∷ left) v)
+    → Run P again first vs n left
+after_second {P} {again} {first} {vs} {n} {left} v k = subst (Run P again first vs n) (after_parameters left v) k
 
--- TURNAROUNDS
-
-abbrev pub InTurn : (List ℕ → Type 0) → List ℕ → ℕ → List Part → Type 0
-InTurn P vs n = Run P (record_of K.Etd) (record_of K.Etd) vs n
-
-pub turn_none : {P : List ℕ → Type 0} {vs : List ℕ} → P [] → InTurn P vs 0 (left_at 0)
-turn_none {P} {vs} also = subst (InTurn P vs 0) (sym left_first) (run_none also)
-
-pub turn_again : {P : List ℕ → Type 0} {vs : List ℕ} {n : ℕ} → InTurn P vs n [] → n < length vs → InTurn P vs n (left_at 0)
-turn_again {P} {vs} {n} o h = subst (InTurn P vs n) (sym left_first) (over_on o refl h)
-
--- after the number of a step's field: the step that it leads to, or the second field of a pair, and then the step that the pair leads to
-module _ {P : List ℕ → Type 0} {vs : List ℕ} {n : ℕ} where
-  module _ {p : Step} {i : ℕ} (s : Stepped p i) (v : ℕ) (k : InTurn P vs n (after (left_at i) v)) where
-    pub turn_on : p.2 ≡ false → InTurn P vs n (left_at (after_field i p.3 v))
-    turn_on one = subst (InTurn P vs n) (s.alone one v) k
-
-    pub turn_half : p.2 ≡ true → InTurn P vs n (once F.parameters ∷ left_at (after_pair i v))
-    turn_half two = subst (InTurn P vs n) (s.paired two v) k
-
-  pub turn_second : {left : List Part} (v : ℕ) → InTurn P vs n (after (once F.parameters ∷ left) v) → InTurn P vs n left
-  turn_second {left} v k = subst (InTurn P vs n) (after_parameters left v) k
+pub over_again : {P : List ℕ → Type 0} {turns : Bool} {shape : Shape} {vs : List ℕ} {n : ℕ} → InShape P turns shape vs n [] → n < length vs
+    → Records (InShape P turns shape vs n) turns shape shape.again
+over_again {turns = turns} {shape} o h =
+    let begins = (walkable shape).begins in record { known = over_on o (left_next turns shape shape.again begins) h; there = begins }
 
 -- WEIGHING
 
@@ -203,19 +234,6 @@ pub record Weighs (vs : List ℕ) (total n : ℕ) (bs : List ℕ) : Type 0 where
   pub low : length bs ≤ 15 * n
 
 module _ {vs bs : List ℕ} {total n w step : ℕ} (k : Weighs vs total n bs) (slim : w ≤ 15) (s : step ≡ cond (leb (length vs) 32768) w 0) where
-  pub weighs_fits : n < length vs → total + step ≤ 524288
-  weighs_fits h =
-      split (leb (length vs) 32768)
-      (λ e.
-      let few = leb-true (length vs) 32768 e in
-      let t : total ≡ length bs = k.is ∙ simp e in
-      let q : step ≡ w = s ∙ simp e in
-      omega (arith, k.low))
-      (λ e.
-      let t : total ≡ 32769 = k.is ∙ simp e in
-      let q : step ≡ 0 = s ∙ simp e in
-      omega arith)
-
   pub weighs_on : (v : ℕ) → Weighs vs (total + step) (n + 1) (bs ++ digits 2 w v)
   weighs_on v =
       let long : length (bs ++ digits 2 w v) ≡ length bs + w = length-append bs (digits 2 w v) ∙ ap (λ (m : ℕ). length bs + m) (length_digits 2 w v) in

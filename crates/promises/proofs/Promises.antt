@@ -11,14 +11,12 @@ use lib.ListN.{length, take, drop, replicate}
 use Rattle.runs.specs.Digits.{Bytes, digits}
 use Rattle.runs.specs.Over.{over, Wrote}
 use Rattle.runs.specs.Same.{among, listed}
-use Rattle.refusals.specs.Outcomes.{Outcome, fine, refused, answered}
+use Rattle.refusals.specs.Outcomes.{Outcome, fine, refused, answered, Answer}
 use Rattle.refusals.specs.Refusals.{number_of}
 use Rattle.refusals.specs.declared.Refusal.{Refusal}
 use Rattle.refusals.specs.declared.Refusal.TheVariants as R
-use Rattle.refusals.specs.declared.Answer.{Answer}
 use Rattle.refusals.proofs.Numbers as refusals
-use Rattle.numbers.specs.declared.TagRead.TheVariants as T
-use Rattle.numbers.specs.declared.LengthRead.TheVariants as L
+use Rattle.numbers.specs.Reads.{read}
 use Rattle.numbers.specs.Tags.{tag_at, tag_bytes}
 use Rattle.numbers.specs.Lengths.{longest, reach, length_at, form_bytes, length_bytes}
 use Rattle.numbers.proofs.Tags as tags
@@ -63,8 +61,7 @@ use Rattle.scrub_kept.proofs.Keeping as keeping
 use Rattle.scrub_kept.proofs.Sheets as sheets
 use Rattle.scrub_kept.proofs.Scrubbing as scrubbing
 use Rattle.scrub_kept.proofs.ReadBack as back
-use Rattle.lookup.specs.declared.Found.{Found}
-use Rattle.lookup.specs.Lookup.{looked_up, part_of}
+use Rattle.lookup.specs.Lookup.{Looked, looked_up, part_of}
 use Rattle.lookup.specs.Named.{Without, Says}
 use Rattle.pmd.specs.Reading as pmd
 use Rattle.pmd.specs.Writing.{fields_written}
@@ -98,16 +95,16 @@ told o = told_of (answered length o)
 -- NUMBERS
 
 -- A tag that was written is read where it stands, whatever follows.
-pub tag_back : (s : List ℕ) (at t : ℕ) (r : List ℕ) → drop at s ≡ tag_bytes t ++ r → 0 < t → t < 128 ^ 4 → tag_at s at ≡ T.Tag t (at + length (tag_bytes t))
+pub tag_back : (s : List ℕ) (at t : ℕ) (r : List ℕ) → drop at s ≡ tag_bytes t ++ r → 0 < t → t < 128 ^ 4 → tag_at s at ≡ read t (at + length (tag_bytes t))
 tag_back = tags.tag_back
 
 -- Every tag that is accepted is the one written form of its number.
-pub tag_canonical : (s : List ℕ) (at t n : ℕ) → Bytes s → tag_at s at ≡ T.Tag t n → (drop at s ≡ tag_bytes t ++ drop n s) × (n ≡ at + length (tag_bytes t))
+pub tag_canonical : (s : List ℕ) (at t n : ℕ) → Bytes s → tag_at s at ≡ read t n → (drop at s ≡ tag_bytes t ++ drop n s) × (n ≡ at + length (tag_bytes t))
 tag_canonical = tags.tag_canonical
 
 -- A length in any accepted form is read where it stands, whatever follows.
 pub length_back : (s : List ℕ) (at k n : ℕ) (r : List ℕ) → drop at s ≡ form_bytes k n ++ r → k ≤ longest → n < reach k
-    → length_at s at ≡ L.Length n (at + length (form_bytes k n))
+    → length_at s at ≡ read n (at + length (form_bytes k n))
 length_back = lengths.form_back
 
 -- No accepted form of a length is shorter than the one that is written.
@@ -438,7 +435,7 @@ pub told_apart : (a b : Answer) → told_of a ≡ told_of b → a ≡ b
 told_apart = edge.told_apart
 
 -- Nor are two answers of a look-up told by the same four numbers.
-pub found_apart : (a b : Found) → told_found_of a ≡ told_found_of b → a ≡ b
+pub found_apart : (a b : Looked) → told_found_of a ≡ told_found_of b → a ≡ b
 found_apart = lookups.found_apart
 
 -- Where C is told a refusal, by any number but 0, every lent run holds what it held before.

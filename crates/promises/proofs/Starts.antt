@@ -14,8 +14,7 @@ use Rattle.runs.proofs.Stands.{stands_within}
 use Rattle.runs.proofs.Those.{each_map}
 use Rattle.refusals.specs.Outcomes.{fine}
 use Rattle.pack.specs.declared.Payload.{Payload}
-use Rattle.pack.specs.declared.Found.TheVariants.{Whole}
-use Rattle.pack.specs.Payloads.{payload_at, Ground}
+use Rattle.pack.specs.Payloads.{payload_at, Ground, whole}
 use Rattle.pack.specs.Items.{Part}
 use Rattle.pack.specs.Reading.{Read, reading}
 use Rattle.pack.specs.Meaning.{stretch, stretch_in}
@@ -33,7 +32,7 @@ inside : (s : List ℕ) (v l : ℕ) → v + l ≤ length s → stretch_in s v l 
 unfolding stretch_in
 inside s v l h = simp (le-leb _ _ h)
 
-whole_stands : (s : List ℕ) (at t v l : ℕ) → Bytes s → payload_at s at ≡ Whole t v l → Stands s t at v l
+whole_stands : (s : List ℕ) (at t v l : ℕ) → Bytes s → payload_at s at ≡ whole t v l → Stands s t at v l
 whole_stands s at t v l b e = let d = payload_laid s at t v l b e in record { form = d.form; fits = d.fits; bytes = d.stands }
 
 -- what stands in a part of the pack stands in the pack
@@ -44,7 +43,7 @@ module _ (s : List ℕ) (base n : ℕ) (bytes : Bytes s) where
   rest : List ℕ
   rest = drop n (drop base s)
 
-  inner_stands : (at t v l : ℕ) → payload_at part at ≡ Whole t v l → Stands s t (base + at) (base + v) l
+  inner_stands : (at t v l : ℕ) → payload_at part at ≡ whole t v l → Stands s t (base + at) (base + v) l
   unfolding part rest
   inner_stands at t v l e =
       let d = payload_laid part at t v l (part_bytes s base n bytes) e in
@@ -65,7 +64,7 @@ module _ (s : List ℕ) (base n : ℕ) (bytes : Bytes s) where
             ∙ ap₂ (λ (y z : List ℕ). element t d.form y ++ z) value (sym after);
       }
 
-  inner_ends : (at t v l : ℕ) → payload_at part at ≡ Whole t v l → base + v + l ≤ length s
+  inner_ends : (at t v l : ℕ) → payload_at part at ≡ whole t v l → base + v + l ≤ length s
   unfolding part
   inner_ends at t v l e =
       let w = payload_within part at t v l e in

@@ -1,6 +1,6 @@
 -- Trusted. The bench examples of document 01 that are marked P, as one table, those of turnarounds, and those of languages. The key and the three labels
 -- stand here byte for byte.
-use Rattle.std.specs.Prelude.{◌≡◌, List, [], ◌∷◌, ◌++◌, ℕ, ◌+◌, ◌*◌, ◌/◌, ◌%◌, pos, negsuc}
+use Rattle.std.specs.Prelude.{◌≡◌, List, [], ◌∷◌, ◌++◌, Ok, ℕ, ◌+◌, ◌*◌, ◌/◌, ◌%◌, pos, negsuc}
 use Rattle.refusals.specs.declared.Refusal.TheVariants as R
 use Rattle.refusals.specs.Outcomes.{Outcome, fine, refused, and_then}
 use Rattle.pack.specs.Fixed.{utility_labels}
@@ -32,7 +32,7 @@ abbrev pub LineHolds : Line → Type 0
 LineHolds (labels expected) = utility_labels ≡ expected
 LineHolds (pack rest expected) = said_by (K ++ rest) ≡ expected
 LineHolds (value kind s expected) = pmd.fields_read kind s ≡ expected
-LineHolds (gain g expected) = level_of g ≡ expected
+LineHolds (gain g expected) = level_of g ≡ Ok expected
 
 unfoldable pub All : List Line → Type 0
 All [] = Unit

@@ -2,9 +2,10 @@
 use mathlib.Core.Path.{◌≡◌, refl, sym, ap, ◌∙◌}
 use Prim.Native.Nat.{ℕ}
 use Rattle.runs.proofs.Cases.{absurd_eq}
+use Rattle.std.specs.Prelude.{Result, Ok, Err}
 use Rattle.refusals.specs.declared.Refusal.{Refusal}
-use Rattle.refusals.specs.declared.Answer.{Answer}
-use Rattle.refusals.specs.declared.Answer.TheVariants as A
+use Rattle.refusals.specs.declared.Refused.{Refused}
+use Rattle.refusals.specs.Refusals.{refused_at}
 use Rattle.refusals.specs.Outcomes.{Outcome, fine, refused, and_then, answered}
 
 -- ONE AFTER THE OTHER
@@ -55,25 +56,25 @@ then_kept (refused w p) f h = cc
 -- ANSWERS
 
 -- the answer of an outcome that is known
-pub answered_fine : {X : Type 0} (f : X → ℕ) {o : Outcome X} {x : X} → o ≡ fine x → A.Done (f x) ≡ answered f o
+pub answered_fine : {X B : Type 0} (f : X → B) {o : Outcome X} {x : X} → o ≡ fine x → Ok (f x) ≡ answered f o
 unfolding answered
 answered_fine f e = sym (ap (answered f) e)
 
-pub answered_refused : {X : Type 0} (f : X → ℕ) {o : Outcome X} {why : Refusal} {p : ℕ} {r : Answer} → o ≡ refused why p → r ≡ A.Refused why p → r ≡ answered f o
+pub answered_refused : {X B : Type 0} (f : X → B) {o : Outcome X} {why : Refusal} {p : ℕ} {r : Result B Refused} → o ≡ refused why p → r ≡ Err (refused_at why p) → r ≡ answered f o
 unfolding answered
 answered_refused f e q = q ∙ sym (ap (answered f) e)
 
 -- the outcome of an answer that is known
-pub done_of_lem : {X : Type 0} (f : X → ℕ) (o : Outcome X) {n : ℕ} → A.Done n ≡ answered f o → (x : X) × (o ≡ fine x) × (n ≡ f x)
+pub done_of_lem : {X B : Type 0} (f : X → B) (o : Outcome X) {n : B} → Ok n ≡ answered f o → (x : X) × (o ≡ fine x) × (n ≡ f x)
 unfolding answered
 done_of_lem f (fine x) e = (x, refl, cc)
 done_of_lem f (refused why p) e = absurd_eq (cc)
 
-pub refused_of : {X : Type 0} (f : X → ℕ) (o : Outcome X) {why : Refusal} {p : ℕ} → A.Refused why p ≡ answered f o → o ≡ refused why p
+pub refused_of : {X B : Type 0} (f : X → B) (o : Outcome X) {r : Refused} → Err r ≡ answered f o → o ≡ refused r.why r.place
 unfolding answered
 refused_of f (fine x) e = absurd_eq (cc)
-refused_of f (refused why p) e = cc
+refused_of f (refused why p) e = let q : _ ≡ refused_at why p = cc in ap (λ (x : Refused). refused x.why x.place) (sym q)
 
 -- a number that is its own count
-pub number_of : (o : Outcome ℕ) {n : ℕ} → A.Done n ≡ answered (λ (m : ℕ). m) o → o ≡ fine n
+pub number_of : (o : Outcome ℕ) {n : ℕ} → Ok n ≡ answered (λ (m : ℕ). m) o → o ≡ fine n
 number_of o e = let d = done_of_lem (λ (m : ℕ). m) o e in d.1 ∙ ap fine (sym d.2)

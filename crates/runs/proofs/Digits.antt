@@ -3,11 +3,9 @@ use mathlib.Core.Path.{◌≡◌, refl, sym, ap, ap₂, ◌∙◌, subst}
 use mathlib.Core.List.{List, [], ◌∷◌, ◌++◌}
 use Prim.Native.Nat.{ℕ, zero, suc, ◌+◌, ◌-◌, ◌*◌, ◌/◌, ◌%◌, ◌^◌, ◌<◌, ◌≤◌}
 use native.Mathlib.Nat.{mod-lt, mod-one, mod-eq_of_lt, mul_assoc, mul_comm, mul-one, mul-zero, mul-suc, add_assoc, add_comm, add-mul, add-zero, zero-add, suc-add, zero-mul, pow-zero, pow-suc, pow-le-pow_right, one-le-pow, lt_of_lt_of_le, zero-div, zero-mod, div-div-eq-div-mul, div-add-mod', add-mul-div_right, mul-add-mod_self_right, le_refl}
-use native.Mathlib.Numerals.{add-one}
 use native.Mathlib.Omega.{arith}
 use lib.Arith.{digits_lt, digits_div, mod-mul}
-use lib.ListN.{length, take, drop, get_or, replicate}
-use lib.Seq.{drop-cons}
+use lib.ListN.{length, replicate}
 use lib.Pow.{pow-add}
 use Rattle.runs.specs.Digits.{digits, number_from, number, Below}
 
@@ -139,14 +137,3 @@ one_more b k n d h g = subst (λ (m : ℕ). n * b + d < m) (sym (pow-suc b k)) (
 
 pub more_digits : (b : ℕ) {k m n : ℕ} → 0 < b → k ≤ m → n < b ^ k → n < b ^ m
 more_digits b p h g = lt_of_lt_of_le g (pow-le-pow_right p h)
-
--- one turn of a loop over the digits of a list, and its end: v is the number so far
-pub number_turn : (b v r n p whole : ℕ) (l : List ℕ) → p < length l → r ≡ v * b + get_or l p 0 → number_from b v (take (suc n) (drop p l)) ≡ whole
-    → number_from b r (take n (drop (p + 1) l)) ≡ whole
-unfolding number_from
-number_turn b v r n p whole l h e g =
-    ap₂ (λ (x m : ℕ). number_from b x (take n (drop m l))) e (add-one p) ∙ ap (λ (x : List ℕ). number_from b v (take (suc n) x)) (sym (drop-cons l p 0 h)) ∙ g
-
-pub number_done : (b v n whole : ℕ) (l : List ℕ) → n ≡ 0 → number_from b v (take n l) ≡ whole → v ≡ whole
-unfolding number_from
-number_done b v n whole l e g = ap (λ (m : ℕ). number_from b v (take m l)) (sym e) ∙ g

@@ -6,16 +6,35 @@ use native.Mathlib.Omega.{arith}
 use native.Mathlib.Numerals.{add-one}
 use native.Mathlib.Nat.{add_assoc, add-zero, add-suc}
 use lib.ListN.{length, take, drop, set, length-append, length-drop, take-append-drop}
-use lib.Seq.{length-take-le, take_at, drop_at, drop-drop, set_split, sets, sets-eq}
+use lib.Seq.{paste, take-take, length-take-le, take_at, drop_at, drop-drop, set_split, sets, sets-eq}
+use Rattle.std.proofs.lemmas.List.Edits.{paste_all}
 use Rattle.runs.specs.Over.{over, Wrote}
 
 pub over_nil : (xs : List ℕ) (a : ℕ) → over xs a [] ≡ xs
 unfolding over
 over_nil xs a = rw add-zero (take-append-drop a xs)
 
+-- what a part of a buffer leaves when it is given back
+pub over_paste : (xs : List ℕ) (a : ℕ) (ys : List ℕ) → paste xs a ys (length ys) ≡ over xs a ys
+unfolding over
+over_paste xs a ys = paste_all xs a ys (length ys) refl
+
 pub over_one : (xs : List ℕ) (a b : ℕ) → a < length xs → set xs a b ≡ over xs a (b ∷ [])
 unfolding over
 over_one xs a b h = rw (set_split, add-one)
+
+-- a byte before a run that stands there
+pub over_before : (xs : List ℕ) (a b : ℕ) (ys : List ℕ) → a + 1 + length ys ≤ length xs → set (over xs (a + 1) ys) a b ≡ over xs a (b ∷ ys)
+unfolding over
+over_before xs a b ys h =
+    let p = take (a + 1) xs in
+    let q = ys ++ drop (a + 1 + length ys) xs in
+    let long : length p ≡ a + 1 = length-take-le (a + 1) xs (omega arith) in
+    let front : take a (p ++ q) ≡ take a xs =
+    sym (take-take a (a + 1) (p ++ q) (omega arith)) ∙ ap (take a) (take_at p q (a + 1) long) ∙ take-take a (a + 1) xs (omega arith) in
+    let back : drop (suc a) (p ++ q) ≡ q = ap (λ (n : ℕ). drop n (p ++ q)) (let e : suc a ≡ a + 1 = omega arith in e) ∙ drop_at p q (a + 1) long in
+    set_split (p ++ q) a b (omega (arith, length-append p q, long)) ∙ ap₂ (λ (f r : List ℕ). f ++ (b ∷ r)) front back
+    ∙ ap (λ (n : ℕ). take a xs ++ (b ∷ (ys ++ drop n xs))) (let e : a + 1 + length ys ≡ a + suc (length ys) = omega arith in e)
 
 -- stores one after the other, at a + k, a + (k + 1) and so on, as code writes their places
 abbrev pub stores_from : List ℕ → ℕ → ℕ → List ℕ → List ℕ

@@ -1,5 +1,5 @@
 #![tactic(auto)]
-// Runs of bytes in a lent buffer: the two loops that every writer shares.
+// Runs of bytes in a lent buffer: the copy and the clearing that every writer shares.
 ghost use Rattle.std.specs.Prelude.{◌≡◌, ◌+◌, ◌-◌, ◌≤◌, length, replicate};
 ghost use Rattle.runs.specs.Over.{over, Wrote};
 
@@ -8,12 +8,9 @@ pub fn copy(out: &mut [u8], at: usize, src: &[u8]) -> usize
     requires { at + length src.now ≤ length out.old }
     ensures { Wrote out.old at src.now result out.new }
 {
-    let mut i: usize = 0;
-    while i < src.len() {
-        out[at + i] = src[i];
-        i += 1;
-    }
-    at + i
+    let next = at + src.len();
+    out[at..next].copy_from_slice(src);
+    next
 }
 
 // Makes 0 of every byte of `out` from `at` on.
@@ -21,9 +18,5 @@ pub fn clear(out: &mut [u8], at: usize)
     requires { at ≤ length out.old }
     ensures { out.new ≡ over out.old at (replicate (length out.old - at) 0) }
 {
-    let mut i = at;
-    while i < out.len() {
-        out[i] = 0;
-        i += 1;
-    }
+    out[at..].fill(0);
 }

@@ -2,7 +2,7 @@
 use mathlib.Core.Path.{◌≡◌, refl, sym, ap, ap₂, ◌∙◌}
 use mathlib.Core.List.{List, [], ◌∷◌, ◌++◌, map, append_assoc}
 use mathlib.Core.Bool.{true, cond}
-use Prim.Native.Nat.{ℕ, ◌+◌, ◌<◌, ◌≤◌, ◌^◌}
+use Prim.Native.Nat.{ℕ, suc, ◌+◌, ◌<◌, ◌≤◌, ◌^◌}
 use native.Mathlib.Omega.{arith}
 use lib.Dec.{eqb}
 use lib.ListN.{length, length-append}
@@ -18,10 +18,9 @@ use Rattle.pack.specs.declared.Payload.{Payload}
 use Rattle.pack.specs.declared.Head.{Head}
 use Rattle.pack.specs.declared.Item.{Item}
 use Rattle.pack.specs.declared.Item.TheVariants as I
-use Rattle.pack.specs.declared.Slot.{Slot}
 use Rattle.pack.specs.Said.{SaidPayload, SaidItem}
 use Rattle.pack.specs.Items.{Part, one, many}
-use Rattle.pack.specs.Slots.{slot, slots}
+use Rattle.pack.specs.Slots.{slots}
 use Rattle.pack.specs.Meaning.{stretch, meant_name, meant_payload, meant_part}
 use Rattle.pack.proofs.Slots.{PartItems}
 use Rattle.pack_layout.specs.Layout.{Entry, element, elements_bytes, chunks_bytes}
@@ -30,24 +29,25 @@ use Rattle.scrub_kept.specs.Sheet.{Sheet}
 use Rattle.scrub_kept.specs.Kept.{keeps, kept_payloads, kept_sync, kept_items}
 use Rattle.scrub_kept.specs.Written.{tag_for, as_element, as_chunk}
 use Rattle.scrub_ops.specs.declared.Op.{Op}
-use Rattle.scrub_ops.specs.declared.Op.TheVariants.{Skip, Put, Open}
-use Rattle.scrub_ops.specs.Ops.{op_bytes, ops_bytes, OpFits}
+use Rattle.scrub_ops.specs.declared.Op.TheVariants.{Put, Open}
+use Rattle.scrub_ops.specs.Ops.{op_bytes, some_bytes, ops_bytes, SomeFits}
 use Rattle.runs.proofs.Stands.{part_length}
 use Rattle.scrub_ops.proofs.Ops.{put_size, open_size}
-use Rattle.scrub_plan.specs.Planned.{sized, slot_plan, Planned, joined}
+use Rattle.std.specs.Prelude.{Option, Some, None}
+use Rattle.scrub_plan.specs.Planned.{sized, item_plan, Planned, joined}
 
--- the plan by a tag for each name, 0 for one that goes
-abbrev pub tag_item : (Name → ℕ) → Item → ℕ
+-- the plan by a tag for each name that stays
+abbrev pub tag_item : (Name → Option ℕ) → Item → Option ℕ
 tag_item tag (I.Single x) = tag x.name
 tag_item tag (I.Inner x) = tag x.name
-tag_item tag (I.Sync h) = 0
+tag_item tag (I.Sync h) = None
 
-unfoldable pub plan_by : (Name → ℕ) → List Slot → Planned
+unfoldable pub plan_by : (Name → Option ℕ) → List Item → Planned
 plan_by tag [] = record { inner = 0; total = 0; ops = [] }
-plan_by tag (x ∷ xs) = joined (slot_plan x.item (tag_item tag x.item) (plan_by tag xs).inner) (plan_by tag xs)
+plan_by tag (x ∷ xs) = joined (item_plan x (tag_item tag x) (plan_by tag xs).inner) (plan_by tag xs)
 
-inners : List Payload → List Slot
-inners xs = map (λ (x : Payload). slot (I.Inner x)) xs
+inners : List Payload → List Item
+inners xs = map (λ (x : Payload). I.Inner x) xs
 
 element_long : (t : ℕ) (v : List ℕ) → 0 < length (element t (shortest (length v)) v)
 element_long t v =
@@ -60,14 +60,14 @@ module _ (s : List ℕ) (labels : List (List ℕ)) (sh : Sheet) (ms : List Entry
   abbrev pub said : Payload → SaidPayload
   said x = meant_payload s labels x
 
-  -- the new tag of a name that is kept, 0 for one that is not
-  abbrev pub new_tag : Name → ℕ
-  new_tag n = cond (keeps sh (meant_name labels n)) (tag_for ms (meant_name labels n)) 0
+  -- the new tag of a name that is kept
+  abbrev pub new_tag : Name → Option ℕ
+  new_tag n = cond (keeps sh (meant_name labels n)) (Some (tag_for ms (meant_name labels n))) None
 
-  -- a payload whose value lies in the pack, and which has a tag if it is kept
+  -- a payload whose value lies in the pack, and whose tag can be written if it is kept
   pub record Lies (x : Payload) : Type 0 where
     pub ends : x.value_start + x.value_len ≤ length s
-    pub tagged : keeps sh (meant_name labels x.name) ≡ true → (0 < tag_for ms (meant_name labels x.name)) × (tag_for ms (meant_name labels x.name) < 128 ^ 4)
+    pub tagged : keeps sh (meant_name labels x.name) ≡ true → tag_for ms (meant_name labels x.name) < 128 ^ 4
 
   abbrev pub ItemLies : Item → Type 0
   ItemLies (I.Single x) = Lies x
@@ -89,12 +89,12 @@ module _ (s : List ℕ) (labels : List (List ℕ)) (sh : Sheet) (ms : List Entry
       ≡ length (element (tag_for ms (meant_name labels x.name)) (shortest (length (said x).value)) (said x).value)
   put_sized x h = sym (put_size s (tag_for ms (meant_name labels x.name)) x.value_start x.value_len h.ends) ∙ ap length (put_bytes x h)
 
-  record Inside (xs : List Payload) (rest : List Slot) : Type 0 where
+  record Inside (xs : List Payload) (rest : List Item) : Type 0 where
     pub bytes : ops_bytes s (plan_by new_tag (inners xs ++ rest)).ops ≡ bytes_of xs ++ ops_bytes s (plan_by new_tag rest).ops
     pub size : (plan_by new_tag (inners xs ++ rest)).inner ≡ length (bytes_of xs) + (plan_by new_tag rest).inner
 
-  inside_flat : (xs : List Payload) (rest : List Slot) → Each Lies xs → Inside xs rest
-  unfolding plan_by slot_plan those elements_bytes ops_bytes inners op_bytes
+  inside_flat : (xs : List Payload) (rest : List Item) → Each Lies xs → Inside xs rest
+  unfolding plan_by item_plan those elements_bytes some_bytes ops_bytes inners
   inside_flat [] rest h = record { bytes = refl; size = let z : (plan_by new_tag rest).inner ≡ 0 + (plan_by new_tag rest).inner = omega arith in z }
   inside_flat (x ∷ xs) rest h =
       let i = inside_flat xs rest h.1 in
@@ -102,11 +102,9 @@ module _ (s : List ℕ) (labels : List (List ℕ)) (sh : Sheet) (ms : List Entry
       let e = element t (shortest (length (said x).value)) (said x).value in
       let pb = bytes_of xs in
       split (keeps sh (meant_name labels x.name))
-      (λ a. let g = h.0.tagged a in
-      let nz : t ≡ 0 → ⊥ = λ q. omega arith in
-      record {
-        bytes = rw (a, ne_eqb t 0 nz) (ap₂ (λ (u v : List ℕ). u ++ v) (put_bytes x h.0) i.bytes ∙ sym (append_assoc e pb (ops_bytes s (plan_by new_tag rest).ops)));
-        size = rw (a, ne_eqb t 0 nz) (let n = put_sized x h.0 in let m = length-append e pb in let z = i.size in omega arith);
+      (λ a. record {
+        bytes = rw a (ap₂ (λ (u v : List ℕ). u ++ v) (put_bytes x h.0) i.bytes ∙ sym (append_assoc e pb (ops_bytes s (plan_by new_tag rest).ops)));
+        size = rw a (let n = put_sized x h.0 in let m = length-append e pb in let z = i.size in omega arith);
       })
       (λ a. record { bytes = rw a i.bytes; size = rw a i.size })
 
@@ -122,10 +120,10 @@ module _ (s : List ℕ) (labels : List (List ℕ)) (sh : Sheet) (ms : List Entry
       let a = length-append u (v ++ pb) in let b = length-append v pb in let c = length_digits 256 2 o in let e = length_digits 256 2 d in omega arith in
       ap (λ (m : ℕ). (tag_bytes 2 ++ (form_bytes (shortest m) m ++ (u ++ v))) ++ (pb ++ rest)) n ∙ simp append_assoc
 
-  sync_flat : (o d n : ℕ) (ys : List SaidPayload) (ops : List Op) (r : List SaidItem) → n ≡ length (elements_bytes (map (as_element ms) ys))
+  sync_flat : (o d n : ℕ) (ys : List SaidPayload) (ops : List (Option Op)) (r : List SaidItem) → n ≡ length (elements_bytes (map (as_element ms) ys))
       → ops_bytes s ops ≡ elements_bytes (map (as_element ms) ys) ++ chunks_bytes (map (as_chunk ms) r)
-      → ops_bytes s (cond (eqb n 0) Skip (Open n o d) ∷ ops) ≡ chunks_bytes (map (as_chunk ms) (kept_sync o d ys r))
-  unfolding kept_sync elements_bytes chunks_bytes ops_bytes op_bytes
+      → ops_bytes s (cond (eqb n 0) None (Some (Open n o d)) ∷ ops) ≡ chunks_bytes (map (as_chunk ms) (kept_sync o d ys r))
+  unfolding kept_sync elements_bytes chunks_bytes some_bytes ops_bytes
   sync_flat o d n [] ops r e h = rw (eq-eqb n 0 e) h
   sync_flat o d n (y ∷ ys) ops r e h =
       let p = elements_bytes (map (as_element ms) (y ∷ ys)) in
@@ -136,102 +134,94 @@ module _ (s : List ℕ) (labels : List (List ℕ)) (sh : Sheet) (ms : List Entry
       rw (ne_eqb n 0 z) (ap₂ (λ (m : ℕ) (l : List ℕ). op_bytes s (Open m o d) ++ l) e h ∙ open_bytes o d p (chunks_bytes (map (as_chunk ms) r)))
 
   no_inner : (ps : List Part) → (plan_by new_tag (slots ps)).inner ≡ 0
-  unfolding plan_by slots slot_plan
+  unfolding plan_by slots item_plan
   no_inner [] = refl
-  no_inner (one x ∷ ps) = split (eqb (new_tag x.name) 0) (λ a. rw a) (λ a. rw a)
-  no_inner (many h xs ∷ ps) = split (eqb (plan_by new_tag (map (λ (x : Payload). slot (I.Inner x)) xs ++ slots ps)).inner 0) (λ a. rw a) (λ a. rw a)
-
-  stays_op : (x : Payload) (t n : ℕ) → (t ≡ 0 → ⊥) → (slot_plan (I.Single x) t n).op ≡ Put t x.value_start x.value_len
-  unfolding slot_plan
-  stays_op x t n h = rw (ne_eqb t 0 h)
-
-  goes_bytes : (x : Payload) (n : ℕ) → op_bytes s (slot_plan (I.Single x) 0 n).op ≡ []
-  unfolding slot_plan op_bytes
-  goes_bytes x n = refl
+  no_inner (one x ∷ ps) = split (keeps sh (meant_name labels x.name)) (λ a. rw a) (λ a. rw a)
+  no_inner (many h xs ∷ ps) = split (eqb (plan_by new_tag (map (λ (x : Payload). I.Inner x) xs ++ slots ps)).inner 0) (λ a. rw a) (λ a. rw a)
 
   two_long : length (tag_bytes 2) ≡ 1
   two_long = ap length (tag_short 2 (omega arith))
 
-  sync_op : (h : Head) (n : ℕ) → (slot_plan (I.Sync h) 0 n).op ≡ cond (eqb n 0) Skip (Open n h.offset h.duration)
-  unfolding slot_plan
+  sync_op : (h : Head) (n : ℕ) → (item_plan (I.Sync h) None n).op ≡ cond (eqb n 0) None (Some (Open n h.offset h.duration))
+  unfolding item_plan
   sync_op h n = split (eqb n 0) (λ a. rw a) (λ a. rw a)
 
   -- the writes of all slots are the bytes of the kept items
   pub flat_items : (ps : List Part) → Each (PartItems ItemLies) ps
       → ops_bytes s (plan_by new_tag (slots ps)).ops ≡ chunks_bytes (map (as_chunk ms) (kept_items sh (map (meant_part s labels) ps)))
-  unfolding plan_by slots kept_items chunks_bytes ops_bytes inners
+  unfolding plan_by slots item_plan kept_items chunks_bytes some_bytes ops_bytes inners
   flat_items [] h = refl
   flat_items (one x ∷ ps) h =
       let i = flat_items ps h.1 in
-      let t = tag_for ms (meant_name labels x.name) in
-      let n = (plan_by new_tag (slots ps)).inner in
       split (keeps sh (meant_name labels x.name))
-      (λ a. let g = h.0.tagged a in
-      let nz : t ≡ 0 → ⊥ = λ q. omega arith in
-      rw (a, stays_op x t n nz) (ap₂ (λ (u v : List ℕ). u ++ v) (put_bytes x h.0) i))
-      (λ a. rw (a, goes_bytes x n) i)
+      (λ a. rw a (ap₂ (λ (u v : List ℕ). u ++ v) (put_bytes x h.0) i))
+      (λ a. rw a i)
   flat_items (many hd xs ∷ ps) h =
       let i = inside_flat xs (slots ps) h.0.1 in
       let ys = kept_payloads sh (map said xs) in
       let n : (plan_by new_tag (inners xs ++ slots ps)).inner ≡ length (elements_bytes (map (as_element ms) ys)) =
       let a = i.size in let b = no_inner ps in omega arith in
       let m = (plan_by new_tag (inners xs ++ slots ps)).inner in
-      ap (λ (o : Op). op_bytes s o ++ ops_bytes s (plan_by new_tag (inners xs ++ slots ps)).ops) (sync_op hd m)
+      ap (λ (o : Option Op). some_bytes s o ++ ops_bytes s (plan_by new_tag (inners xs ++ slots ps)).ops) (sync_op hd m)
       ∙ sync_flat hd.offset hd.duration m ys (plan_by new_tag (inners xs ++ slots ps)).ops (kept_items sh (map (meant_part s labels) ps)) n
       (i.bytes ∙ ap (λ (l : List ℕ). elements_bytes (map (as_element ms) ys) ++ l) (flat_items ps h.1))
 
-  abbrev pub SlotLies : Slot → Type 0
-  SlotLies x = ItemLies x.item
+  -- a place for each item
+  pub plan_count : (xs : List Item) → length (plan_by new_tag xs).ops ≡ length xs
+  unfolding plan_by
+  plan_count [] = refl
+  plan_count (x ∷ xs) = ap suc (plan_count xs)
 
-  tag_high : (x : Payload) → Lies x → new_tag x.name < 128 ^ 4
-  tag_high x h = split (keeps sh (meant_name labels x.name)) (λ a. rw a (h.tagged a).1) (λ a. rw a (omega arith))
-
-  plan_size : (it : Item) (t n : ℕ) → ItemLies it → (slot_plan it t n).size ≡ length (op_bytes s (slot_plan it t n).op)
-  unfolding slot_plan op_bytes
-  plan_size (I.Single x) t n h = split (eqb t 0) (λ a. rw a) (λ a. rw a (sym (put_size s t x.value_start x.value_len h.ends)))
-  plan_size (I.Inner x) t n h = split (eqb t 0) (λ a. rw a) (λ a. rw a (sym (put_size s t x.value_start x.value_len h.ends)))
+  plan_size : (it : Item) (t : Option ℕ) (n : ℕ) → ItemLies it → (item_plan it t n).size ≡ length (some_bytes s (item_plan it t n).op)
+  unfolding item_plan some_bytes
+  plan_size (I.Single x) None n h = refl
+  plan_size (I.Single x) (Some t) n h = sym (put_size s t x.value_start x.value_len h.ends)
+  plan_size (I.Inner x) None n h = refl
+  plan_size (I.Inner x) (Some t) n h = sym (put_size s t x.value_start x.value_len h.ends)
   plan_size (I.Sync hd) t n h =
       split (eqb n 0)
       (λ a. rw a)
       (λ a. rw a (let z = open_size s n hd.offset hd.duration in let y = two_long in omega arith))
 
   -- what was added up is the size of the writes
-  pub total_size : (xs : List Slot) → Each SlotLies xs → (plan_by new_tag xs).total ≡ length (ops_bytes s (plan_by new_tag xs).ops)
+  pub total_size : (xs : List Item) → Each ItemLies xs → (plan_by new_tag xs).total ≡ length (ops_bytes s (plan_by new_tag xs).ops)
   unfolding plan_by ops_bytes
   total_size [] h = refl
   total_size (x ∷ xs) h =
       let p = plan_by new_tag xs in
-      let st = slot_plan x.item (tag_item new_tag x.item) p.inner in
-      ap₂ (λ (a b : ℕ). a + b) (plan_size x.item (tag_item new_tag x.item) p.inner h.0) (total_size xs h.1)
-      ∙ sym (length-append (op_bytes s st.op) (ops_bytes s p.ops))
+      let st = item_plan x (tag_item new_tag x) p.inner in
+      ap₂ (λ (a b : ℕ). a + b) (plan_size x (tag_item new_tag x) p.inner h.0) (total_size xs h.1)
+      ∙ sym (length-append (some_bytes s st.op) (ops_bytes s p.ops))
 
-  plan_inner : (it : Item) (t n : ℕ) → (slot_plan it t n).inner ≤ n + (slot_plan it t n).size
-  unfolding slot_plan
-  plan_inner (I.Single x) t n = split (eqb t 0) (λ a. rw a (omega arith)) (λ a. rw a (omega arith))
-  plan_inner (I.Inner x) t n = split (eqb t 0) (λ a. rw a (omega arith)) (λ a. rw a (omega arith))
+  plan_inner : (it : Item) (t : Option ℕ) (n : ℕ) → (item_plan it t n).inner ≤ n + (item_plan it t n).size
+  unfolding item_plan
+  plan_inner (I.Single x) None n = omega arith
+  plan_inner (I.Single x) (Some t) n = omega arith
+  plan_inner (I.Inner x) None n = omega arith
+  plan_inner (I.Inner x) (Some t) n = omega arith
   plan_inner (I.Sync hd) t n = split (eqb n 0) (λ a. rw a (omega arith)) (λ a. rw a (omega arith))
 
-  inner_most : (xs : List Slot) → (plan_by new_tag xs).inner ≤ (plan_by new_tag xs).total
+  inner_most : (xs : List Item) → (plan_by new_tag xs).inner ≤ (plan_by new_tag xs).total
   unfolding plan_by
   inner_most [] = omega arith
   inner_most (x ∷ xs) =
       let p = plan_by new_tag xs in
       let i = inner_most xs in
-      let j = plan_inner x.item (tag_item new_tag x.item) p.inner in
+      let j = plan_inner x (tag_item new_tag x) p.inner in
       omega arith
 
-  op_fits : (it : Item) (n : ℕ) → ItemLies it → n < 3000000 → OpFits s (slot_plan it (tag_item new_tag it) n).op
-  unfolding slot_plan
-  op_fits (I.Single x) n h b = split (eqb (new_tag x.name) 0) (λ a. rw a tt) (λ a. rw a (tag_high x h, h.ends))
-  op_fits (I.Inner x) n h b = split (eqb (new_tag x.name) 0) (λ a. rw a tt) (λ a. rw a (tag_high x h, h.ends))
+  op_fits : (it : Item) (n : ℕ) → ItemLies it → n < 3000000 → SomeFits s (item_plan it (tag_item new_tag it) n).op
+  unfolding item_plan
+  op_fits (I.Single x) n h b = split (keeps sh (meant_name labels x.name)) (λ a. rw a (h.tagged a, h.ends)) (λ a. rw a tt)
+  op_fits (I.Inner x) n h b = split (keeps sh (meant_name labels x.name)) (λ a. rw a (h.tagged a, h.ends)) (λ a. rw a tt)
   op_fits (I.Sync hd) n h b = split (eqb n 0) (λ a. rw a tt) (λ a. rw a (let z : 4 + n < 2 ^ 32 = omega arith in z))
 
   -- the writes can be made
-  pub ops_fit : (xs : List Slot) → Each SlotLies xs → (plan_by new_tag xs).total < 3000000 → Each (OpFits s) (plan_by new_tag xs).ops
+  pub ops_fit : (xs : List Item) → Each ItemLies xs → (plan_by new_tag xs).total < 3000000 → Each (SomeFits s) (plan_by new_tag xs).ops
   unfolding plan_by
   ops_fit [] h b = tt
   ops_fit (x ∷ xs) h b =
       let p = plan_by new_tag xs in
       let i = inner_most xs in
       let l : p.total < 3000000 = omega arith in
-      (op_fits x.item p.inner h.0 (omega arith), ops_fit xs h.1 l)
+      (op_fits x p.inner h.0 (omega arith), ops_fit xs h.1 l)

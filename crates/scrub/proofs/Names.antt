@@ -15,10 +15,9 @@ use Rattle.pack.specs.declared.Name.TheVariants as N
 use Rattle.pack.specs.declared.Payload.{Payload}
 use Rattle.pack.specs.declared.Item.{Item}
 use Rattle.pack.specs.declared.Item.TheVariants as I
-use Rattle.pack.specs.declared.Slot.{Slot}
 use Rattle.pack.specs.Said.{SaidName, label, number, SaidPayload, SaidItem, names}
 use Rattle.pack.specs.Items.{Part, one, many}
-use Rattle.pack.specs.Slots.{slot, slots}
+use Rattle.pack.specs.Slots.{slots}
 use Rattle.pack.specs.Meaning.{meant_name, meant_payload, meant_part}
 use Rattle.pack.proofs.Slots.{PartItems}
 use Rattle.pack_layout.specs.Layout.{Entry}
@@ -28,10 +27,9 @@ use Rattle.scrub_kept.specs.Kept.{keeps, kept_payloads, kept_sync, kept_items}
 use Rattle.scrub_kept.specs.Written.{numbers_in, labels_in, tag_for}
 use Rattle.scrub_kept.proofs.Listed.{never, listed_here, listed_more}
 use Rattle.scrub_kept.proofs.Labels.{LabelsApart}
-use Rattle.scrub_marks.specs.declared.Mark.{Mark}
-use Rattle.scrub_marks.specs.declared.Mark.TheVariants as M
+use Rattle.std.specs.Prelude.{Option, Some, None}
 use Rattle.scrub_names.specs.Marks.{mark_name, mark_item, marks_of, kept_numbers, kept_labels}
-use Rattle.scrub_plan.specs.Planned.{tag_of, slot_plan, Planned, joined, planned}
+use Rattle.scrub_plan.specs.Planned.{tag_of, item_plan, Planned, joined, planned}
 use Rattle.scrub.proofs.Flat.{tag_item, plan_by, new_tag}
 
 -- a label is one of so many mappings
@@ -39,10 +37,9 @@ abbrev pub Below : ℕ → Name → Type 0
 Below n (N.Label i) = i < n
 Below n (N.Number t) = Unit
 
-abbrev pub MarkBelow : ℕ → Mark → Type 0
-MarkBelow n M.Gone = Unit
-MarkBelow n (M.Number t) = Unit
-MarkBelow n (M.Label i) = i < n
+abbrev pub MarkBelow : ℕ → Option Name → Type 0
+MarkBelow n None = Unit
+MarkBelow n (Some x) = Below n x
 
 abbrev pub ItemBelow : ℕ → Item → Type 0
 ItemBelow n (I.Single x) = Below n x.name
@@ -80,37 +77,37 @@ module _ (labels : List (List ℕ)) (apart : LabelsApart labels) where
 
 -- WHAT MARKS SAY
 
-unfoldable pub saying : List (List ℕ) → List Mark → List SaidName
+unfoldable pub saying : List (List ℕ) → List (Option Name) → List SaidName
 saying labels [] = []
-saying labels (M.Gone ∷ r) = saying labels r
-saying labels (M.Number t ∷ r) = number t ∷ saying labels r
-saying labels (M.Label i ∷ r) = label (get_or labels i []) ∷ saying labels r
+saying labels (None ∷ r) = saying labels r
+saying labels (Some (N.Number t) ∷ r) = number t ∷ saying labels r
+saying labels (Some (N.Label i) ∷ r) = label (get_or labels i []) ∷ saying labels r
 
-pub saying_numbers : (labels : List (List ℕ)) (ms : List Mark) → numbers_in (saying labels ms) ≡ kept_numbers ms
+pub saying_numbers : (labels : List (List ℕ)) (ms : List (Option Name)) → numbers_in (saying labels ms) ≡ kept_numbers ms
 unfolding saying numbers_in kept_numbers
 saying_numbers labels [] = refl
-saying_numbers labels (M.Gone ∷ r) = saying_numbers labels r
-saying_numbers labels (M.Number t ∷ r) = ap (λ (l : List ℕ). t ∷ l) (saying_numbers labels r)
-saying_numbers labels (M.Label i ∷ r) = saying_numbers labels r
+saying_numbers labels (None ∷ r) = saying_numbers labels r
+saying_numbers labels (Some (N.Number t) ∷ r) = ap (λ (l : List ℕ). t ∷ l) (saying_numbers labels r)
+saying_numbers labels (Some (N.Label i) ∷ r) = saying_numbers labels r
 
-pub saying_labels : (labels : List (List ℕ)) (apart : LabelsApart labels) (seen : List ℕ) (ms : List Mark) → Each (λ (j : ℕ). j < length labels) seen
+pub saying_labels : (labels : List (List ℕ)) (apart : LabelsApart labels) (seen : List ℕ) (ms : List (Option Name)) → Each (λ (j : ℕ). j < length labels) seen
     → Each (MarkBelow (length labels)) ms → labels_in (map (at labels apart) seen) (saying labels ms) ≡ map (at labels apart) (kept_labels seen ms)
 unfolding saying labels_in kept_labels
 saying_labels labels apart seen [] h g = refl
-saying_labels labels apart seen (M.Gone ∷ r) h g = saying_labels labels apart seen r h g.1
-saying_labels labels apart seen (M.Number t ∷ r) h g = saying_labels labels apart seen r h g.1
-saying_labels labels apart seen (M.Label i ∷ r) h g =
+saying_labels labels apart seen (None ∷ r) h g = saying_labels labels apart seen r h g.1
+saying_labels labels apart seen (Some (N.Number t) ∷ r) h g = saying_labels labels apart seen r h g.1
+saying_labels labels apart seen (Some (N.Label i) ∷ r) h g =
     split (among i seen)
     (λ e. rw (listed_among labels apart i seen g.0 h, e) (saying_labels labels apart seen r h g.1))
     (λ e. rw (listed_among labels apart i seen g.0 h, e) (ap (λ (l : List (List ℕ)). get_or labels i [] ∷ l) (saying_labels labels apart (i ∷ seen) r (g.0, h) g.1)))
 
 -- labels in order are labels of marks
-pub order_below : (n : ℕ) (seen : List ℕ) (ms : List Mark) → Each (MarkBelow n) ms → Each (λ (j : ℕ). j < n) (kept_labels seen ms)
+pub order_below : (n : ℕ) (seen : List ℕ) (ms : List (Option Name)) → Each (MarkBelow n) ms → Each (λ (j : ℕ). j < n) (kept_labels seen ms)
 unfolding kept_labels
 order_below n seen [] h = tt
-order_below n seen (M.Gone ∷ r) h = order_below n seen r h.1
-order_below n seen (M.Number t ∷ r) h = order_below n seen r h.1
-order_below n seen (M.Label i ∷ r) h =
+order_below n seen (None ∷ r) h = order_below n seen r h.1
+order_below n seen (Some (N.Number t) ∷ r) h = order_below n seen r h.1
+order_below n seen (Some (N.Label i) ∷ r) h =
     split (among i seen) (λ e. rw e (order_below n seen r h.1)) (λ e. rw e (h.0, order_below n (i ∷ seen) r h.1))
 
 pub sync_names : (o d : ℕ) (ys : List SaidPayload) (r : List SaidItem) → names (kept_sync o d ys r) ≡ map (λ (x : SaidPayload). x.name) ys ++ names r
@@ -122,7 +119,7 @@ sync_names o d (y ∷ ys) r = refl
 
 module _ (s : List ℕ) (labels : List (List ℕ)) (sh : Sheet) (flags : List Bool)
     (right : (i : ℕ) → i < length labels → get_or flags i false ≡ keeps sh (label (get_or labels i []))) where
-  mark_says : (n : Name) (r : List Mark) → Below (length labels) n
+  mark_says : (n : Name) (r : List (Option Name)) → Below (length labels) n
       → saying labels (mark_name flags sh n ∷ r) ≡ cond (keeps sh (meant_name labels n)) (meant_name labels n ∷ saying labels r) (saying labels r)
   unfolding saying mark_name
   mark_says (N.Label i) r h =
@@ -134,10 +131,10 @@ module _ (s : List ℕ) (labels : List (List ℕ)) (sh : Sheet) (flags : List Bo
   mark_below (N.Label i) h = split (get_or flags i false) (λ e. rw e h) (λ e. rw e tt)
   mark_below (N.Number t) h = split (keeps sh (number t)) (λ e. rw e tt) (λ e. rw e tt)
 
-  abbrev inners : List Payload → List Slot
-  inners xs = map (λ (x : Payload). slot (I.Inner x)) xs
+  abbrev inners : List Payload → List Item
+  inners xs = map (λ (x : Payload). I.Inner x) xs
 
-  inners_say : (xs : List Payload) (rest : List Slot) → Each (λ (x : Payload). Below (length labels) x.name) xs
+  inners_say : (xs : List Payload) (rest : List Item) → Each (λ (x : Payload). Below (length labels) x.name) xs
       → saying labels (marks_of flags sh (inners xs ++ rest))
       ≡ map (λ (x : SaidPayload). x.name) (kept_payloads sh (map (meant_payload s labels) xs)) ++ saying labels (marks_of flags sh rest)
   unfolding mark_item those
@@ -172,9 +169,9 @@ module _ (s : List ℕ) (labels : List (List ℕ)) (sh : Sheet) (flags : List Bo
   item_below (I.Inner x) h = mark_below x.name h
   item_below (I.Sync hd) h = tt
 
-  pub marks_below : (xs : List Slot) → Each (λ (x : Slot). ItemBelow (length labels) x.item) xs → Each (MarkBelow (length labels)) (marks_of flags sh xs)
+  pub marks_below : (xs : List Item) → Each (ItemBelow (length labels)) xs → Each (MarkBelow (length labels)) (marks_of flags sh xs)
   marks_below [] h = h
-  marks_below (x ∷ xs) h = (item_below x.item h.0, marks_below xs h.1)
+  marks_below (x ∷ xs) h = (item_below x h.0, marks_below xs h.1)
 
   -- TAGS OF MARKS
 
@@ -182,7 +179,7 @@ module _ (s : List ℕ) (labels : List (List ℕ)) (sh : Sheet) (flags : List Bo
     mark_tag : (n : Name) → Below (length labels) n → tag_of index (mark_name flags sh n) ≡ new_tag s labels sh ms n
     unfolding mark_name tag_for
     mark_tag (N.Label i) h =
-        rw (right i h) (split (keeps sh (label (get_or labels i []))) (λ e. rw e (given i h)) (λ e. rw e))
+        rw (right i h) (split (keeps sh (label (get_or labels i []))) (λ e. rw e (ap Some (given i h))) (λ e. rw e))
     mark_tag (N.Number t) h = split (keeps sh (number t)) (λ e. rw e) (λ e. rw e)
 
     item_tag : (it : Item) → ItemBelow (length labels) it → tag_of index (mark_item flags sh it) ≡ tag_item (new_tag s labels sh ms) it
@@ -192,11 +189,11 @@ module _ (s : List ℕ) (labels : List (List ℕ)) (sh : Sheet) (flags : List Bo
     item_tag (I.Sync hd) h = refl
 
     -- the plan goes by the new tags of names
-    pub slots_planned : (xs : List Slot) (rest : List Mark) → Each (λ (x : Slot). ItemBelow (length labels) x.item) xs
+    pub slots_planned : (xs : List Item) (rest : List (Option Name)) → Each (ItemBelow (length labels)) xs
         → planned index xs (marks_of flags sh xs ++ rest) ≡ plan_by (new_tag s labels sh ms) xs
     unfolding planned plan_by
     slots_planned [] rest h = refl
     slots_planned (x ∷ xs) rest h =
         let p = plan_by (new_tag s labels sh ms) xs in
-        ap (λ (q : Planned). joined (slot_plan x.item (tag_of index (mark_item flags sh x.item)) q.inner) q) (slots_planned xs rest h.1)
-        ∙ ap (λ (t : ℕ). joined (slot_plan x.item t p.inner) p) (item_tag x.item h.0)
+        ap (λ (q : Planned). joined (item_plan x (tag_of index (mark_item flags sh x)) q.inner) q) (slots_planned xs rest h.1)
+        ∙ ap (λ (t : Option ℕ). joined (item_plan x t p.inner) p) (item_tag x h.0)

@@ -27,7 +27,7 @@ use Rattle.scrub_kept.specs.Sheet.{Sheet}
 use Rattle.scrub_kept.specs.Kept.{keeps}
 use Rattle.scrub_kept.proofs.Labels.{LabelsApart}
 use Rattle.scrub_names.specs.Marks.{flags_of, HasLabel}
-use Rattle.scrub_plan.specs.Planned.{ItemSmall, SlotSmall}
+use Rattle.scrub_plan.specs.Planned.{ItemSmall}
 use Rattle.scrub.proofs.Names.{Below, ItemBelow}
 
 get_or_padded : {A : Type 0} (n : ℕ) (d : A) (xs : List A) (i : ℕ) (e : A) → i < length xs → get_or (padded n d xs) i e ≡ get_or xs i e
@@ -75,7 +75,7 @@ module _ (s : List ℕ) (n : ℕ) where
     part_small (one x) h = value_small x h
     part_small (many hd xs) h = (tt, each_map value_small xs h.1)
 
-    pub slots_small : (ps : List Part) → Each (B.PartLies s n) ps → Each SlotSmall (slots ps)
+    pub slots_small : (ps : List Part) → Each (B.PartLies s n) ps → Each ItemSmall (slots ps)
     slots_small ps h = slots_each ItemSmall ps (each_map part_small ps h)
 
 -- an accepted pack
@@ -84,12 +84,12 @@ module _ (s : List ℕ) (r : Read) (a : B.Accepted s r) where
   labels = C.labels_of r.mappings
 
   abbrev pub places : List ℕ
-  places = padded mapping_cap 0 (C.places_of r.mappings)
+  places = C.places_of r.mappings
 
   pub labels_count : length labels ≡ length r.mappings
   labels_count = length-map r.mappings (λ (m : Mapping). m.stands)
 
-  pub places_count : length (C.places_of r.mappings) ≡ length r.mappings
+  pub places_count : length places ≡ length r.mappings
   places_count = length-map r.mappings (λ (m : Mapping). m.place)
 
   pub labels_apart : LabelsApart labels
@@ -106,6 +106,4 @@ module _ (s : List ℕ) (r : Read) (a : B.Accepted s r) where
   pub place_right : (i : ℕ) → i < length labels → (take 16 (drop (get_or places i 0) s) ≡ get_or labels i []) × (get_or places i 0 + 16 ≤ length s)
   place_right i h =
       let l = labels_count in
-      let q = B.label_at s r.mappings i a.labels (omega arith) in
-      let e = get_or_padded mapping_cap 0 (C.places_of r.mappings) i 0 (omega (arith, places_count)) in
-      (ap (λ (p : ℕ). take 16 (drop p s)) e ∙ q.0, let z = q.1 in omega arith)
+      B.label_at s r.mappings i a.labels (omega arith)

@@ -1,6 +1,6 @@
 -- The tags that the code gives are the smallest free ones, in Config and in the table by index.
 use mathlib.Core.Path.{◌≡◌, refl, sym, ap, ap₂, ◌∙◌}
-use mathlib.Core.List.{List, [], ◌∷◌, ◌++◌, map}
+use mathlib.Core.List.{List, [], ◌∷◌, map}
 use mathlib.Core.Bool.{Bool, true, false}
 use Prim.Native.Nat.{ℕ, zero, suc, ◌+◌, ◌-◌, ◌<◌, ◌≤◌}
 use native.Mathlib.Omega.{arith}
@@ -18,7 +18,8 @@ use Rattle.scrub_kept.specs.Written.{free, assigned, tag_for}
 use Rattle.scrub_kept.proofs.Listed.{never, among_here, among_more}
 use Rattle.scrub_kept.proofs.Labels.{LabelsApart}
 use Rattle.scrub_kept.proofs.Free.{free_new, free_range, free_smallest}
-use Rattle.scrub_names.specs.Given.{clear_from, clear_at, given, by_index}
+use Rattle.scrub_names.specs.Given.{clear_from, clear_at, given, mapped, by_index}
+use Rattle.scrub_config.specs.declared.Mapping.{Mapping}
 use Rattle.scrub_config.specs.Entries.{entries_at}
 use Rattle.scrub.proofs.Names.{at, same_at}
 
@@ -90,32 +91,50 @@ given_free (suc count) n marks taken low few m =
     ap₂ (λ (a : ℕ) (l : List ℕ). a ∷ l) e (given_free count (suc c) marks (t ∷ taken) (omega arith) (omega arith) later)
 
 -- Config's mappings are those that are assigned
-pub entries_assigned : (s places : List ℕ) (labels : List (List ℕ)) (apart : LabelsApart labels) (order taken rest : List ℕ)
+pub entries_assigned : (s places : List ℕ) (labels : List (List ℕ)) (apart : LabelsApart labels) (order taken : List ℕ)
     → Each (λ (i : ℕ). take 16 (drop (get_or places i 0) s) ≡ get_or labels i []) order
-    → entries_at s places order (free_tags taken (length order) ++ rest) ≡ assigned taken (map (at labels apart) order)
-unfolding entries_at free_tags assigned
-entries_assigned s places labels apart [] taken rest h = refl
-entries_assigned s places labels apart (i ∷ order) taken rest h =
-    ap₂ (λ (l : List ℕ) (r : List Entry). record { tag = free taken; stands = l } ∷ r) h.0 (entries_assigned s places labels apart order (free taken ∷ taken) rest h.1)
+    → entries_at s (mapped places order (free_tags taken (length order))) ≡ assigned taken (map (at labels apart) order)
+unfolding mapped free_tags assigned
+entries_assigned s places labels apart [] taken h = refl
+entries_assigned s places labels apart (i ∷ order) taken h =
+    ap₂ (λ (l : List ℕ) (r : List Entry). record { tag = free taken; stands = l } ∷ r) h.0 (entries_assigned s places labels apart order (free taken ∷ taken) h.1)
 
-index_length : (order tags : List ℕ) → length (by_index order tags) ≡ 32
+-- as many as there are labels
+pub given_length : (marks : List Bool) (n count : ℕ) → length (given marks n count) ≡ count
+unfolding given
+given_length marks n zero = refl
+given_length marks n (suc count) = ap suc (given_length marks (suc (clear_at marks n)) count)
+
+pub mapped_length : (places order tags : List ℕ) → length tags ≡ length order → length (mapped places order tags) ≡ length order
+unfolding mapped
+mapped_length places [] tags h = refl
+mapped_length places (i ∷ order) [] h = absurd (let z : 0 ≡ suc (length order) = h in omega arith)
+mapped_length places (i ∷ order) (t ∷ tags) h = ap suc (mapped_length places order tags (let z : suc (length tags) ≡ suc (length order) = h in omega arith))
+
+-- a rule of labels is one of their mappings
+pub mapped_each : (P : ℕ → Type 0) (places order tags : List ℕ) → Each P order → Each (λ (m : Mapping). P m.index) (mapped places order tags)
+unfolding mapped
+mapped_each P places [] tags h = tt
+mapped_each P places (i ∷ order) [] h = tt
+mapped_each P places (i ∷ order) (t ∷ tags) h = (h.0, mapped_each P places order tags h.1)
+
+index_length : (ms : List Mapping) → length (by_index ms) ≡ 32
 unfolding by_index
-index_length [] tags = length-replicate {A = ℕ} mapping_cap 0
-index_length (i ∷ order) [] = length-replicate {A = ℕ} mapping_cap 0
-index_length (i ∷ order) (t ∷ tags) = length-set (by_index order tags) i t ∙ index_length order tags
+index_length [] = length-replicate {A = ℕ} mapping_cap 0
+index_length (m ∷ ms) = length-set (by_index ms) m.index m.tag ∙ index_length ms
 
 -- and so is the table by index
-pub index_assigned : (labels : List (List ℕ)) (apart : LabelsApart labels) (order taken rest : List ℕ) → length labels ≤ 32
+pub index_assigned : (labels : List (List ℕ)) (apart : LabelsApart labels) (places order taken : List ℕ) → length labels ≤ 32
     → Each (λ (i : ℕ). i < length labels) order → (i : ℕ) → i < length labels
-    → get_or (by_index order (free_tags taken (length order) ++ rest)) i 0 ≡ tag_for (assigned taken (map (at labels apart) order)) (label (get_or labels i []))
-unfolding by_index free_tags assigned tag_for
-index_assigned labels apart [] taken rest few h i low = get_or-replicate mapping_cap i 0 0 (omega arith)
-index_assigned labels apart (o ∷ order) taken rest few h i low =
-    let tags = free_tags (free taken ∷ taken) (length order) ++ rest in
-    let n = index_length order tags in
+    → get_or (by_index (mapped places order (free_tags taken (length order)))) i 0 ≡ tag_for (assigned taken (map (at labels apart) order)) (label (get_or labels i []))
+unfolding by_index mapped free_tags assigned tag_for
+index_assigned labels apart places [] taken few h i low = get_or-replicate mapping_cap i 0 0 (omega arith)
+index_assigned labels apart places (o ∷ order) taken few h i low =
+    let ms = mapped places order (free_tags (free taken ∷ taken) (length order)) in
+    let n = index_length ms in
     let b = h.0 in
-    let r = index_assigned labels apart order (free taken ∷ taken) rest few h.1 i low in
+    let r = index_assigned labels apart places order (free taken ∷ taken) few h.1 i low in
     split (eqb o i)
     (λ e. rw (same_at labels apart o i h.0 low, e)
-    (ap (λ (k : ℕ). get_or (set (by_index order tags) o (free taken)) k 0) (sym (eqb-true o i e)) ∙ get_or-set_same (by_index order tags) o (free taken) 0 (omega arith)))
-    (λ e. rw (same_at labels apart o i h.0 low, e) (get_or-set_other (by_index order tags) o i (free taken) 0 (λ q. eqb-false o i e (sym q)) ∙ r))
+    (ap (λ (k : ℕ). get_or (set (by_index ms) o (free taken)) k 0) (sym (eqb-true o i e)) ∙ get_or-set_same (by_index ms) o (free taken) 0 (omega arith)))
+    (λ e. rw (same_at labels apart o i h.0 low, e) (get_or-set_other (by_index ms) o i (free taken) 0 (λ q. eqb-false o i e (sym q)) ∙ r))

@@ -13,9 +13,9 @@ use Rattle.runs.specs.Digits.{Bytes}
 use Rattle.runs.proofs.Cases.{split, absurd_eq}
 use Rattle.refusals.specs.declared.Refusal.{Refusal}
 use Rattle.refusals.specs.declared.Refusal.TheVariants as R
-use Rattle.refusals.specs.declared.Answer.TheVariants as A
+use Rattle.std.specs.Prelude.{Ok, Err}
 use Rattle.refusals.specs.Outcomes.{Outcome, fine, refused, and_then, answered}
-use Rattle.refusals.specs.Refusals.{number_of}
+use Rattle.refusals.specs.Refusals.{number_of, refused_at}
 use Rattle.refusals.proofs.Outcomes.{then_fine, then_stops}
 use Rattle.pack.specs.Fixed.{pack_cap}
 use Rattle.pack.specs.Said.{SaidItem}
@@ -95,25 +95,25 @@ never_sheet sheet s room sh why place bytes named h is =
 
 -- where something is written, what the buffer held before is gone
 pub done_same : (before other : List ℕ) (o : Outcome (List ℕ)) → length before ≡ length other
-    → (n : ℕ) → answered length o ≡ A.Done n → leaves before o ≡ leaves other o
+    → (n : ℕ) → answered length o ≡ Ok n → leaves before o ≡ leaves other o
 unfolding answered leaves
 done_same before other (fine b) l n h = ap (λ (m : ℕ). b ++ replicate (m - length b) 0) l
 done_same before other (refused why place) l n h = absurd_eq (cc)
 
 -- the pack of so many bytes as the answer says, and 0 after it
-pub done_front : (before : List ℕ) (o : Outcome (List ℕ)) (n : ℕ) → answered length o ≡ A.Done n → o ≡ fine (take n (leaves before o))
+pub done_front : (before : List ℕ) (o : Outcome (List ℕ)) (n : ℕ) → answered length o ≡ Ok n → o ≡ fine (take n (leaves before o))
 unfolding answered leaves
 done_front before (fine b) n h = ap fine (sym (take_at b (replicate (length before - length b) 0) n (cc)))
 done_front before (refused why place) n h = absurd_eq (cc)
 
-pub done_rest : (before : List ℕ) (o : Outcome (List ℕ)) (n : ℕ) → answered length o ≡ A.Done n → drop n (leaves before o) ≡ replicate (length before - n) 0
+pub done_rest : (before : List ℕ) (o : Outcome (List ℕ)) (n : ℕ) → answered length o ≡ Ok n → drop n (leaves before o) ≡ replicate (length before - n) 0
 unfolding answered leaves
 done_rest before (fine b) n h =
     let l : length b ≡ n = cc in drop_at b (replicate (length before - length b) 0) n l ∙ ap (λ (m : ℕ). replicate (length before - m) 0) l
 done_rest before (refused why place) n h = absurd_eq (cc)
 
 -- after a refusal the buffer holds what it held before
-pub refused_same : (before : List ℕ) (o : Outcome (List ℕ)) (why : Refusal) (place : ℕ) → answered length o ≡ A.Refused why place → leaves before o ≡ before
+pub refused_same : (before : List ℕ) (o : Outcome (List ℕ)) (why : Refusal) (place : ℕ) → answered length o ≡ Err (refused_at why place) → leaves before o ≡ before
 unfolding answered leaves
 refused_same before (fine b) why place h = absurd_eq (cc)
 refused_same before (refused w p) why place h = refl

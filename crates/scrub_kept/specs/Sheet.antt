@@ -3,8 +3,7 @@
 use Rattle.std.specs.Prelude.{List, [], ◌∷◌, Bool, true, cond, not, ◌&&◌, ℕ, zero, suc, ◌+◌, ◌*◌, ◌^◌, ltb, leb, eqb, length, take, drop}
 use Rattle.runs.specs.Same.{among, listed}
 use Rattle.refusals.specs.declared.Refusal.TheVariants as R
-use Rattle.refusals.specs.declared.Answer.{Answer}
-use Rattle.refusals.specs.Outcomes.{Outcome, fine, refused, answered}
+use Rattle.refusals.specs.Outcomes.{Outcome, fine, refused, answered, Answer}
 use Rattle.numbers.specs.Big.{big_at}
 use Rattle.pack.specs.Fixed.{utility_labels}
 

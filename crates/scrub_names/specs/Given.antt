@@ -1,6 +1,7 @@
 -- Inner. The new tags of labels: each the smallest number from 64 up that is not taken.
 use Rattle.std.specs.Prelude.{List, [], ◌∷◌, Bool, false, cond, ℕ, zero, suc, ◌+◌, ◌-◌, get_or, set, replicate}
 use Rattle.pack.specs.Fixed.{mapping_cap}
+use Rattle.scrub_config.specs.declared.Mapping.{Mapping}
 
 -- the first of the next k marks from n on that is clear
 unfoldable pub clear_from : ℕ → List Bool → ℕ → ℕ
@@ -16,8 +17,17 @@ unfoldable pub given : List Bool → ℕ → ℕ → List ℕ
 given taken n zero = []
 given taken n (suc count) = (64 + clear_at taken n) ∷ given taken (suc (clear_at taken n)) count
 
--- the tags by the index of the mapping, 0 where there is none
-unfoldable pub by_index : List ℕ → List ℕ → List ℕ
-by_index [] tags = replicate mapping_cap 0
-by_index (i ∷ order) [] = replicate mapping_cap 0
-by_index (i ∷ order) (t ∷ tags) = set (by_index order tags) i t
+-- the blank of a mapping
+abbrev pub unmapped : Mapping
+unmapped = record { index = 0; place = 0; tag = 0 }
+
+-- the mappings of labels, given as indices of old mappings, whose labels stand at these places, with their new tags
+unfoldable pub mapped : List ℕ → List ℕ → List ℕ → List Mapping
+mapped places [] tags = []
+mapped places (i ∷ order) [] = []
+mapped places (i ∷ order) (t ∷ tags) = record { index = i; place = get_or places i 0; tag = t } ∷ mapped places order tags
+
+-- the tags by the index of the old mapping, 0 where there is none
+unfoldable pub by_index : List Mapping → List ℕ
+by_index [] = replicate mapping_cap 0
+by_index (m ∷ ms) = set (by_index ms) m.index m.tag

@@ -1,2 +1,1 @@
 pub mod Ops
-pub mod Cells

@@ -1,15 +1,13 @@
 #![tactic(auto)]
-// The writes of a scrub: how each is kept as numbers, and its bytes: a payload, or a Sync up to its first payload.
-ghost use Rattle.std.specs.Prelude.{◌≡◌, [], ◌∷◌, ◌+◌, ◌≤◌, ◌<◌, ◌*◌, length, take};
-ghost use Rattle.runs.specs.Over.{Wrote, over};
-ghost use Rattle.runs.specs.Cells.{Puts};
+// The writes of a scrub and their bytes: a payload, or a Sync up to its first payload.
+ghost use Rattle.std.specs.Prelude.{◌≡◌, [], ◌+◌, ◌≤◌, length};
+ghost use Rattle.runs.specs.Over.{Wrote};
 ghost use Rattle.runs.specs.Those.{Each};
-ghost use Rattle.scrub_ops.specs.Ops.{op_bytes, ops_bytes, OpFits, op_numbers, op_at, ops_in};
+ghost use Rattle.scrub_ops.specs.Ops.{op_bytes, ops_bytes, OpFits, SomeFits};
 
-// One write: nothing; a payload under a tag, its value a stretch of the pack; a Sync before `size` bytes of payloads.
+// One write: a payload under a tag, its value a stretch of the pack; or a Sync before `size` bytes of payloads.
 #[derive(Clone, Copy)]
 pub enum Op {
-    Skip,
     Put {
         tag: u32,
         start: u32,
@@ -20,55 +18,6 @@ pub enum Op {
         offset: u16,
         duration: u16,
     },
-}
-
-fn put_four(ops: &mut [u32], at: usize, kind: u32, a: u32, b: u32, c: u32)
-    requires { at + 4 ≤ length ops.old }
-    ensures { ops.new ≡ over ops.old at (kind ∷ a ∷ b ∷ c ∷ []) }
-{
-    ops[at] = kind;
-    ops[at + 1] = a;
-    ops[at + 2] = b;
-    ops[at + 3] = c;
-}
-
-// Puts a write into its place among all, where each takes four numbers.
-pub fn put_op(ops: &mut [u32; 256], i: usize, op: Op)
-    requires { i < 64 }
-    ensures { Puts op_at op_numbers 4 64 ops.old i op ops.new }
-{
-    match op {
-        Op::Skip => put_four(ops, 4 * i, 0, 0, 0, 0),
-        Op::Put { tag, start, len } => put_four(ops, 4 * i, 1, tag, start, len),
-        Op::Open {
-            size,
-            offset,
-            duration,
-        } => put_four(ops, 4 * i, 2, size, offset as u32, duration as u32),
-    }
-}
-
-fn op_at(ops: &[u32; 256], i: usize) -> Op
-    requires { i < 64 }
-    ensures { result ≡ op_at ops.now (4 * i) }
-{
-    let at = 4 * i;
-    let kind = ops[at];
-    if kind == 1 {
-        return Op::Put {
-            tag: ops[at + 1],
-            start: ops[at + 2],
-            len: ops[at + 3],
-        };
-    }
-    if kind == 2 {
-        return Op::Open {
-            size: ops[at + 1],
-            offset: (ops[at + 2] % 65536) as u16,
-            duration: (ops[at + 3] % 65536) as u16,
-        };
-    }
-    Op::Skip
 }
 
 // A payload: tag, shortest length, value.
@@ -99,7 +48,6 @@ fn write_op(p: &[u8], op: Op, out: &mut [u8], at: usize) -> usize
     ensures { Wrote out.old at (op_bytes p.now op) result out.new }
 {
     match op {
-        Op::Skip => at,
         Op::Put { tag, start, len } => write_put(p, tag, start, len, out, at),
         Op::Open {
             size,
@@ -109,17 +57,16 @@ fn write_op(p: &[u8], op: Op, out: &mut [u8], at: usize) -> usize
     }
 }
 
-// The first `count` writes, one after the other.
-pub fn write_ops(p: &[u8], ops: &[u32; 256], count: usize, out: &mut [u8], at: usize) -> usize
-    requires { (count ≤ 64) × (at + length (ops_bytes p.now (take count (ops_in ops.now))) ≤ length out.old) × Each (OpFits p.now) (take count (ops_in ops.now)) }
-    ensures { Wrote out.old at (ops_bytes p.now (take count (ops_in ops.now))) result out.new }
+// The writes, one after the other; at a place that holds none nothing is written.
+pub fn write_ops(p: &[u8], ops: &[Option<Op>], out: &mut [u8], at: usize) -> usize
+    requires { (at + length (ops_bytes p.now ops.now) ≤ length out.old) × Each (SomeFits p.now) ops.now }
+    ensures { Wrote out.old at (ops_bytes p.now ops.now) result out.new }
 {
-    let mut i: usize = 0;
     let mut next = at;
-    while i < count {
-        let op = op_at(ops, i);
-        next = write_op(p, op, out, next);
-        i += 1;
+    for op in ops {
+        if let Some(op) = *op {
+            next = write_op(p, op, out, next);
+        }
     }
     next
 }

@@ -1,111 +1,88 @@
--- What the plan loop keeps: the plan of the slots from some slot on.
+-- What the plan loop keeps: the plan of the items from some item on.
 use mathlib.Core.Path.{◌≡◌, refl, sym, ap, ap₂, ◌∙◌}
 use mathlib.Core.List.{List, [], ◌∷◌, ◌++◌, append_assoc}
+use Rattle.std.specs.Prelude.{Option, None}
 use Prim.Native.Nat.{ℕ, suc, ◌+◌, ◌-◌, ◌*◌, ◌<◌, ◌≤◌}
 use native.Mathlib.Omega.{arith}
-use lib.ListN.{length, take, drop, get_or, set, replicate, length-replicate, replicate-append-replicate, drop_of_length-le}
-use lib.Seq.{drop-cons, set_at, take_at}
-use Rattle.runs.specs.Cells.{numbers_of, Puts, Own}
-use Rattle.pack.specs.declared.Slot.{Slot}
-use Rattle.scrub_marks.specs.declared.Mark.{Mark}
-use Rattle.scrub_ops.specs.declared.Op.TheVariants.{Skip}
+use lib.ListN.{length, drop, get_or, set, replicate, length-replicate, replicate-append-replicate, drop_of_length-le}
+use lib.Seq.{drop-cons, set_at}
+use Rattle.pack.specs.declared.Name.{Name}
+use Rattle.pack.specs.declared.Item.{Item}
 use Rattle.scrub_ops.specs.declared.Op.{Op}
-use Rattle.scrub_ops.specs.Ops.{op_numbers, op_at, ops_in}
-use Rattle.scrub_ops.proofs.Cells.{ops_none, own_nothing, own_write}
-use Rattle.scrub_plan.specs.declared.SlotPlan.{SlotPlan}
-use Rattle.scrub_plan.specs.Planned.{tag_of, slot_plan, Planned, joined, planned, Plans}
+use Rattle.scrub_plan.specs.declared.ItemPlan.{ItemPlan}
+use Rattle.scrub_plan.specs.Planned.{tag_of, item_plan, Planned, joined, planned, Plans}
 
-set_last : (s x : Op) (xs : List Op) (i : ℕ) → 0 < i → set (replicate i s ++ xs) (i - 1) x ≡ replicate (i - 1) s ++ (x ∷ xs)
-set_last s x xs i h =
-    let j = i - 1 in
-    let e : i ≡ j + 1 = omega arith in
-    ap (λ (n : ℕ). set (replicate n s ++ xs) j x) e
-    ∙ ap (λ (l : List Op). set (l ++ xs) j x) (sym (replicate-append-replicate j 1 s))
-    ∙ ap (λ (l : List Op). set l j x) (append_assoc (replicate j s) (s ∷ []) xs)
-    ∙ set_at (replicate j s) s xs x j (length-replicate j s)
+set_last : (s x : Option Op) (xs : List (Option Op)) (i : ℕ) → set (replicate (i + 1) s ++ xs) i x ≡ replicate i s ++ (x ∷ xs)
+set_last s x xs i =
+    ap (λ (l : List (Option Op)). set (l ++ xs) i x) (sym (replicate-append-replicate i 1 s))
+    ∙ ap (λ (l : List (Option Op)). set l i x) (append_assoc (replicate i s) (s ∷ []) xs)
+    ∙ set_at (replicate i s) s xs x i (length-replicate i s)
 
--- the slots from i on are planned
-pub record Going (index : List ℕ) (xs : List Slot) (ms : List Mark) (ops : List ℕ) (inner size i : ℕ) : Type 0 where
-  pub most : i ≤ length xs
-  pub few : length xs ≤ 64
-  pub long : length ms ≡ 64
-  pub own : Own op_at op_numbers 4 64 ops
-  pub full : ops_in ops ≡ replicate i Skip ++ ((planned index (drop i xs) (drop i ms)).ops ++ replicate (64 - length xs) Skip)
+-- the items from i on are planned
+pub record Going (index : List ℕ) (xs : List Item) (ms : List (Option Name)) (ops : List (Option Op)) (inner size i : ℕ) : Type 0 where
+  pub full : ops ≡ replicate i None ++ ((planned index (drop i xs) (drop i ms)).ops ++ replicate (64 - length xs) None)
   pub ins : inner ≡ (planned index (drop i xs) (drop i ms)).inner
   pub tot : size ≡ (planned index (drop i xs) (drop i ms)).total
   pub bound : size + i * 40000 ≤ length xs * 40000
   pub small : inner ≤ size
 
-pub going_begins : (index : List ℕ) (xs : List Slot) (ms : List Mark) (count : ℕ) → count ≡ length xs → length xs ≤ 64 → length ms ≡ 64
-    → Going index xs ms (replicate 256 0) 0 0 count
+pub going_begins : (index : List ℕ) (xs : List Item) (ms : List (Option Name)) → length xs ≤ 64 → Going index xs ms (replicate 64 None) 0 0 (length xs)
 unfolding planned
-going_begins index xs ms count n f l =
-    let e : drop count xs ≡ [] = drop_of_length-le xs {i = count} (omega arith) in
-    let z : count + (64 - length xs) ≡ 64 = omega arith in
+going_begins index xs ms f =
+    let e : drop (length xs) xs ≡ [] = drop_of_length-le xs {i = length xs} (omega arith) in
+    let z : length xs + (64 - length xs) ≡ 64 = omega arith in
     record {
-      most = omega arith;
-      few = f;
-      long = l;
-      own = own_nothing;
-      full = ops_none ∙ (rw e (ap (λ (k : ℕ). replicate k Skip) (sym z) ∙ sym (replicate-append-replicate count (64 - length xs) Skip)));
+      full = rw e (ap (λ (k : ℕ). replicate k None) (sym z) ∙ sym (replicate-append-replicate (length xs) (64 - length xs) None));
       ins = rw e;
       tot = rw e;
       bound = omega arith;
       small = omega arith;
     }
 
-planned_count : (index : List ℕ) (xs : List Slot) (ms : List Mark) → length xs ≤ length ms → length (planned index xs ms).ops ≡ length xs
+planned_count : (index : List ℕ) (xs : List Item) (ms : List (Option Name)) → length xs ≤ length ms → length (planned index xs ms).ops ≡ length xs
 unfolding planned
 planned_count index [] ms h = refl
 planned_count index (x ∷ xs) [] h = absurd (let z : suc (length xs) ≤ 0 = h in omega arith)
 planned_count index (x ∷ xs) (m ∷ ms) h = ap suc (planned_count index xs ms (let z : suc (length xs) ≤ suc (length ms) = h in omega arith))
 
-module _ {index : List ℕ} {xs : List Slot} {ms : List Mark} {ops : List ℕ} {inner size i : ℕ} (g : Going index xs ms ops inner size i) where
-  pub going_ends : (count : ℕ) → count ≡ length xs → i ≤ 0 → Plans index xs ms (record { ops = take count (ops_in ops); numbers = ops; size = size })
-  going_ends count c h =
-      let z : i ≡ 0 = omega arith in
-      let f = g.few in
-      let l = g.long in
+module _ {index : List ℕ} {xs : List Item} {ms : List (Option Name)} {ops : List (Option Op)} {inner size : ℕ} (few : length xs ≤ 64) (long : length ms ≡ 64) where
+  pub going_ends : {i : ℕ} → Going index xs ms ops inner size i → i ≤ 0 → Plans index xs ms (record { ops = ops; size = size })
+  going_ends {i} g h =
       let b = g.bound in
-      let p = (planned index xs ms).ops in
+      let z : i ≡ 0 = omega arith in
       let n = planned_count index xs ms (omega arith) in
-      let all : ops_in ops ≡ p ++ replicate (64 - length xs) Skip =
-      g.full ∙ ap (λ (k : ℕ). replicate k Skip ++ ((planned index (drop k xs) (drop k ms)).ops ++ replicate (64 - length xs) Skip)) z in
       record {
-        ops = ap (take count) all ∙ take_at p (replicate (64 - length xs) Skip) count (n ∙ sym c);
-        numbers = g.own ∙ ap (numbers_of op_numbers) (all ∙ ap (λ (k : ℕ). p ++ replicate (64 - k) Skip) (sym n));
+        ops =
+            g.full ∙ ap (λ (k : ℕ). replicate k None ++ ((planned index (drop k xs) (drop k ms)).ops ++ replicate (64 - length xs) None)) z
+            ∙ ap (λ (k : ℕ). (planned index xs ms).ops ++ replicate (64 - k) None) (sym n);
         size = g.tot ∙ ap (λ (k : ℕ). (planned index (drop k xs) (drop k ms)).total) z;
         small = omega arith;
       }
 
-  module _ (d : Slot) (e : Mark) (h : 0 < i) where
-    pub going_on : (r : SlotPlan) (now : List ℕ) → Puts op_at op_numbers 4 64 ops (i - 1) r.op now → (r ≡ slot_plan (get_or xs (i - 1) d).item (tag_of index (get_or ms (i - 1) e)) inner) × (r.size ≤ 40000) × (r.inner ≤ inner + r.size)
-        → Going index xs ms now r.inner (size + r.size) (i - 1)
-    unfolding planned
-    going_on r now put q =
-        let j = i - 1 in
-        let s : suc j ≡ i = omega arith in
-        let m = g.most in
-        let f = g.few in
-        let l = g.long in
-        let a : drop j xs ≡ get_or xs j d ∷ drop i xs = drop-cons xs j d (omega arith) ∙ ap (λ (n : ℕ). get_or xs j d ∷ drop n xs) s in
-        let b : drop j ms ≡ get_or ms j e ∷ drop i ms = drop-cons ms j e (omega arith) ∙ ap (λ (n : ℕ). get_or ms j e ∷ drop n ms) s in
-        let p : planned index (drop j xs) (drop j ms) ≡ joined r (planned index (drop i xs) (drop i ms)) =
-        ap₂ (planned index) a b
-        ∙ ap (λ (n : ℕ). joined (slot_plan (get_or xs j d).item (tag_of index (get_or ms j e)) n) (planned index (drop i xs) (drop i ms))) (sym g.ins)
-        ∙ ap (λ (x : SlotPlan). joined x (planned index (drop i xs) (drop i ms))) (sym q.0) in
-        let tail = (planned index (drop i xs) (drop i ms)).ops ++ replicate (64 - length xs) Skip in
-        record {
-          most = omega arith;
-          few = f;
-          long = l;
-          own = own_write (omega arith) put g.own;
-          full =
-              put.held ∙ ap (λ (y : List Op). set y j r.op) g.full
-              ∙ set_last Skip r.op tail i h
-              ∙ ap (λ (x : Planned). replicate j Skip ++ (x.ops ++ replicate (64 - length xs) Skip)) (sym p);
-          ins = sym (ap (λ (x : Planned). x.inner) p);
-          tot = let y = ap (λ (x : Planned). x.total) p in let w = g.tot in omega arith;
-          bound = let y = g.bound in let w = q.1 in omega arith;
-          small = let y = g.small in let w = q.2 in omega arith;
-        }
+  -- the item before them
+  pub going_on : {i : ℕ} (d : Item) → Going index xs ms ops inner size i → 0 < i → i ≤ length xs → (t : Option ℕ) → t ≡ tag_of index (get_or ms (i - 1) None)
+      → (r : ItemPlan) → r ≡ item_plan (get_or xs (i - 1) d) t inner → r.size ≤ 40000 → r.inner ≤ inner + r.size
+      → Going index xs ms (set ops (i - 1) r.op) r.inner (size + r.size) (i - 1)
+  unfolding planned
+  going_on {i} d g some most t f r e small within =
+      let j = i - 1 in
+      let s : suc j ≡ i = omega arith in
+      let n : i ≡ j + 1 = omega arith in
+      let a : drop j xs ≡ get_or xs j d ∷ drop i xs = drop-cons xs j d (omega arith) ∙ ap (λ (n : ℕ). get_or xs j d ∷ drop n xs) s in
+      let b : drop j ms ≡ get_or ms j None ∷ drop i ms = drop-cons ms j None (omega arith) ∙ ap (λ (n : ℕ). get_or ms j None ∷ drop n ms) s in
+      let rest = planned index (drop i xs) (drop i ms) in
+      let tail = rest.ops ++ replicate (64 - length xs) None in
+      let p : planned index (drop j xs) (drop j ms) ≡ joined r rest =
+      ap₂ (planned index) a b
+      ∙ ap (λ (n : ℕ). joined (item_plan (get_or xs j d) (tag_of index (get_or ms j None)) n) rest) (sym g.ins)
+      ∙ ap (λ (x : ItemPlan). joined x rest) (sym (e ∙ ap (λ (u : Option ℕ). item_plan (get_or xs j d) u inner) f)) in
+      record {
+        full =
+            ap (λ (y : List (Option Op)). set y j r.op) (g.full ∙ ap (λ (k : ℕ). replicate k None ++ tail) n)
+            ∙ set_last None r.op tail j
+            ∙ ap (λ (x : Planned). replicate j None ++ (x.ops ++ replicate (64 - length xs) None)) (sym p);
+        ins = sym (ap (λ (x : Planned). x.inner) p);
+        tot = let y = ap (λ (x : Planned). x.total) p in let w = g.tot in omega arith;
+        bound = let y = g.bound in omega arith;
+        small = let y = g.small in omega arith;
+      }

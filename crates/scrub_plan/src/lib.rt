@@ -1,84 +1,91 @@
 #![tactic(auto)]
-// The plan pass: from marked slots, the writes and their size.
-ghost use Rattle.std.specs.Prelude.{◌≡◌, ◌+◌, ◌≤◌, take, replicate};
+// The plan pass: from the items of a reading and the names that stay, the writes and their size.
+ghost use Rattle.std.specs.Prelude.{◌≡◌, ◌+◌, ◌≤◌, None, length, replicate};
 ghost use Rattle.runs.specs.Those.{Each};
-ghost use Rattle.pack_slots.specs.Slots.{slots_in};
-ghost use Rattle.scrub_marks.specs.Marks.{marks_in};
-ghost use Rattle.scrub_ops.specs.Ops.{ops_in};
-ghost use Rattle.scrub_plan.specs.Planned.{tag_of, sized, slot_plan, Plans, ItemSmall, SlotSmall, MarkFits};
+ghost use Rattle.scrub_plan.specs.Planned.{tag_of, sized, item_plan, nothing, Plans, ItemSmall, MarkFits};
 ghost use Rattle.pack.specs.declared.Item.TheVariants as I;
 
-use pack::{Head, Item, Payload};
-use scrub_marks::Mark;
+use pack::{Head, Item, Name, Payload};
 use scrub_ops::Op;
 
-// What a slot adds: its write, the bytes inside a Sync that is still to come, and its size.
+// What an item adds: its write, the bytes inside a Sync that is still to come, and its size.
 #[derive(Clone, Copy)]
-pub struct SlotPlan {
-    pub op: Op,
+pub struct ItemPlan {
+    pub op: Option<Op>,
     pub inner: u32,
     pub size: u32,
 }
 
-// The tag that a slot is written with, 0 if it goes.
-fn tag_of(mark: Mark, index: &[u32; 32]) -> u32
+// The tag that an item is written with, if its name stays. `index` has the new tags of labels.
+fn tag_of(mark: Option<Name>, index: &[u32; 32]) -> Option<u32>
     requires { MarkFits mark }
     ensures { result ≡ tag_of index.now mark }
 {
     match mark {
-        Mark::Gone => 0,
-        Mark::Number(t) => t,
-        Mark::Label(i) => index[i as usize],
+        None => None,
+        Some(Name::Number(t)) => Some(t),
+        Some(Name::Label(i)) => Some(index[i as usize]),
     }
 }
 
 fn element_size(tag: u32, len: u32) -> u32
     requires { len ≤ 32768 }
-    ensures { (result ≡ sized tag len) × (result ≤ 40000) }
+    ensures size { result ≡ sized tag len }
+    ensures small { result ≤ 40000 }
 {
     (numbers::tag_size(tag) + numbers::length_size(len)) as u32 + len
 }
 
-// The plan of a payload outside a Sync, with its tag.
-fn plan_payload(x: Payload, tag: u32) -> SlotPlan
-    requires { x.value_len ≤ 32768 }
-    ensures { (result ≡ slot_plan (I.Single x) tag 0) × (result.size ≤ 40000) × (result.inner ≡ 0) }
+// What goes adds nothing.
+fn nothing() -> ItemPlan
+    ensures { result ≡ nothing }
 {
-    if tag == 0 {
-        return SlotPlan {
-            op: Op::Skip,
-            inner: 0,
-            size: 0,
-        };
+    ItemPlan {
+        op: None,
+        inner: 0,
+        size: 0,
     }
-    let size = element_size(tag, x.value_len);
-    let op = Op::Put {
-        tag,
-        start: x.value_start,
-        len: x.value_len,
-    };
-    SlotPlan { op, inner: 0, size }
+}
+
+// The plan of a payload outside a Sync, with its tag.
+#[tactic(auto, unfolding(crate::specs::Planned::item_plan))]
+fn plan_payload(x: Payload, tag: Option<u32>) -> ItemPlan
+    requires { x.value_len ≤ 32768 }
+    ensures plan { result ≡ item_plan (I.Single x) tag 0 }
+    ensures small { result.size ≤ 40000 }
+    ensures closed { result.inner ≡ 0 }
+{
+    match tag {
+        None => nothing(),
+        Some(tag) => {
+            let size = element_size(tag, x.value_len);
+            let op = Some(Op::Put {
+                tag,
+                start: x.value_start,
+                len: x.value_len,
+            });
+            ItemPlan { op, inner: 0, size }
+        }
+    }
 }
 
 // The plan of a Sync, before `inner` bytes of payloads.
-fn plan_sync(h: Head, inner: u32) -> SlotPlan
+fn plan_sync(h: Head, inner: u32) -> ItemPlan
     requires { inner ≤ 3000000 }
-    ensures { (result ≡ slot_plan (I.Sync h) 0 inner) × (result.size ≤ 40000) × (result.inner ≡ 0) }
+    ensures plan { result ≡ item_plan (I.Sync h) None inner }
+    ensures small { result.size ≤ 40000 }
+    ensures closed { result.inner ≡ 0 }
 {
     if inner == 0 {
-        return SlotPlan {
-            op: Op::Skip,
-            inner: 0,
-            size: 0,
-        };
+        return nothing();
     }
     let n = numbers::length_size(4 + inner) as u32;
-    let op = Op::Open {
+    let op = Some(Op::Open {
         size: inner,
         offset: h.offset,
         duration: h.duration,
-    };
-    SlotPlan {
+    });
+    ItemPlan {
         op,
         inner: 0,
         size: 1 + (n + 4),
@@ -86,9 +93,11 @@ fn plan_sync(h: Head, inner: u32) -> SlotPlan
 }
 
 // The plan of an item with its tag, before `inner` bytes of payloads inside the same Sync.
-fn plan_slot(item: Item, tag: u32, inner: u32) -> SlotPlan
+fn plan_item(item: Item, tag: Option<u32>, inner: u32) -> ItemPlan
     requires { ItemSmall item × (inner ≤ 3000000) }
-    ensures { (result ≡ slot_plan item tag inner) × (result.size ≤ 40000) × (result.inner ≤ inner + result.size) }
+    ensures plan { result ≡ item_plan item tag inner }
+    ensures small { result.size ≤ 40000 }
+    ensures within { result.inner ≤ inner + result.size }
 {
     match item {
         Item::Single(x) => plan_payload(x, tag),
@@ -96,7 +105,7 @@ fn plan_slot(item: Item, tag: u32, inner: u32) -> SlotPlan
             let plan = plan_payload(x, tag);
             let op = plan.op;
             let n = plan.size;
-            SlotPlan {
+            ItemPlan {
                 op,
                 inner: n + inner,
                 size: n,
@@ -106,29 +115,22 @@ fn plan_slot(item: Item, tag: u32, inner: u32) -> SlotPlan
     }
 }
 
-// Plans the first `count` slots: fills `ops`, which comes empty, and answers how many bytes the writes make.
-pub fn plan_slots(
-    slots: &[u32; 512],
-    marks: &[u32; 128],
+// Plans the items: fills `ops`, which comes empty, and answers how many bytes the writes make.
+pub fn plan_items(
+    items: &[Item],
+    marks: &[Option<Name>; 64],
     index: &[u32; 32],
-    count: usize,
-    ops: &mut [u32; 256],
+    ops: &mut [Option<Op>; 64],
 ) -> u32
-    requires { (count ≤ 64) × Each SlotSmall (take count (slots_in slots.now)) × Each MarkFits (marks_in marks.now) × (ops.old ≡ replicate 256 0) }
-    ensures { Plans index.now (take count (slots_in slots.now)) (marks_in marks.now)
-        (record { ops = take count (ops_in ops.exit.now); numbers = ops.exit.now; size = result }) }
+    requires { (length items.now ≤ 64) × Each ItemSmall items.now × Each MarkFits marks.now × (ops.old ≡ replicate 64 None) }
+    ensures { Plans index.now items.now marks.now (record { ops = ops.new; size = result }) }
 {
     let mut inner: u32 = 0;
     let mut size: u32 = 0;
-    let mut i = count;
-    while i > 0 {
-        i -= 1;
-        let item = pack_slots::item(slots, i);
-        let mark = scrub_marks::mark_in(marks, i);
-        let tag = tag_of(mark, index);
-        let plan = plan_slot(item, tag, inner);
-        let op = plan.op;
-        scrub_ops::put_op(&mut *ops, i, op);
+    for i in (0..items.len()).rev() {
+        let tag = tag_of(marks[i], index);
+        let plan = plan_item(items[i], tag, inner);
+        ops[i] = plan.op;
         inner = plan.inner;
         size += plan.size;
     }

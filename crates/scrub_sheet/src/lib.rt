@@ -3,19 +3,42 @@
 ghost use Rattle.std.specs.Prelude.{◌≡◌, false, ℕ, ◌+◌, ◌*◌, ◌<◌, ◌≤◌, length, take, drop, get_or};
 ghost use Rattle.runs.specs.Same.{among, listed};
 ghost use Rattle.pack.specs.Said.{label, number};
-ghost use Rattle.scrub_kept.specs.Sheet.{labels_at, numbers_at, labels_good, numbers_good, header_good, keeps_all, sheet_checked};
+ghost use Rattle.scrub_kept.specs.Sheet.{labels_at, numbers_at, labels_good, numbers_good, header_good, keeps_all, sheet_checked, sheet_of};
 ghost use Rattle.scrub_kept.specs.Kept.{keeps};
-ghost use Rattle.scrub_sheet.specs.Asked.{sheet_asked, asks, EntriesThere, Short};
+ghost use Rattle.scrub_sheet.specs.Asked.{these_asked, sheet_asked, asks, EntriesThere, Short};
+ghost use Rattle.refusals.specs.Outcomes.{answered};
 
-use refusals::{Answer, Refusal};
+use refusals::{Refusal, Refused};
+use std::marker::Model;
 
-// What a sheet asks for: all, nothing, or its labels and numbers by their counts; a malformed one is refused.
+// What a sheet asks for: all, nothing, or its labels and numbers by their counts.
 #[derive(Clone, Copy)]
-pub enum Asked {
+enum Asked {
     All,
     Nothing,
     These { labels: usize, numbers: usize },
-    Refused,
+}
+
+// A sheet that was judged good. Its bytes stay where they are. Most tags have one byte, so the numbers below 128 are sought once, and not for each
+// payload: `short` says of each whether it is kept.
+#[derive(Drop)]
+pub struct Sheet<'a> {
+    bytes: &'a [u8],
+    asked: Asked,
+    short: [bool; 128],
+}
+
+// What a sheet keeps is what its bytes come to.
+impl<'a> Model for Sheet<'a> {
+    ghost use Rattle.scrub_kept.specs.Sheet.{Sheet as KeepSheet};
+
+    ghost Value = { KeepSheet };
+
+    ghost use Rattle.scrub_sheet.specs.Asked.{asks, EntriesThere, Short};
+
+    ghost view = { λ s. asks s.bytes.now s.asked };
+
+    ghost invariant = { λ s. EntriesThere s.bytes.now s.asked × Short (asks s.bytes.now s.asked) s.short };
 }
 
 // The most labels, and the most numbers, on a sheet.
@@ -29,14 +52,10 @@ fn has_label(s: &[u8], at: usize, count: usize, p: &[u8], i: usize) -> bool
     requires { (i + 16 ≤ length p.now) × (at + 16 * count ≤ length s.now) }
     ensures { result ≡ listed (take 16 (drop i p.now)) (labels_at s.now at count) }
 {
-    let mut left = count;
-    let mut next = at;
-    while left > 0 {
-        if labels::same_label(s, next, p, i) {
+    for k in 0..count {
+        if labels::same_label(s, at + 16 * k, p, i) {
             return true;
         }
-        left -= 1;
-        next += 16;
     }
     false
 }
@@ -46,14 +65,10 @@ fn has_number(s: &[u8], at: usize, count: usize, n: u32) -> bool
     requires { at + 4 * count ≤ length s.now }
     ensures { result ≡ among n (numbers_at s.now at count) }
 {
-    let mut left = count;
-    let mut next = at;
-    while left > 0 {
-        if numbers::be32(s, next) == n {
+    for k in 0..count {
+        if numbers::be32(s, at + 4 * k) == n {
             return true;
         }
-        left -= 1;
-        next += 4;
     }
     false
 }
@@ -64,15 +79,11 @@ fn short_among(s: &[u8], at: usize, count: usize) -> [bool; 128]
     ensures { (n : ℕ) → n < 128 → get_or result n false ≡ among n (numbers_at s.now at count) }
 {
     let mut found = [false; 128];
-    let mut left = count;
-    let mut next = at;
-    while left > 0 {
-        let n = numbers::be32(s, next);
+    for k in 0..count {
+        let n = numbers::be32(s, at + 4 * k);
         if n < 128 {
             found[n as usize] = true;
         }
-        left -= 1;
-        next += 4;
     }
     found
 }
@@ -82,17 +93,14 @@ fn labels_good(s: &[u8], at: usize, count: usize) -> bool
     requires { at + 16 * count ≤ length s.now }
     ensures { result ≡ labels_good (labels_at s.now at count) }
 {
-    let mut left = count;
-    let mut next = at;
-    while left > 0 {
-        left -= 1;
-        if pack::is_utility(s, next) {
+    for k in 0..count {
+        let here = at + 16 * k;
+        if pack::is_utility(s, here) {
             return false;
         }
-        if has_label(s, next + 16, left, s, next) {
+        if has_label(s, here + 16, count - k - 1, s, here) {
             return false;
         }
-        next += 16;
     }
     true
 }
@@ -102,26 +110,24 @@ fn numbers_good(s: &[u8], at: usize, count: usize) -> bool
     requires { at + 4 * count ≤ length s.now }
     ensures { result ≡ numbers_good (numbers_at s.now at count) }
 {
-    let mut left = count;
-    let mut next = at;
-    while left > 0 {
-        left -= 1;
-        let n = numbers::be32(s, next);
+    for k in 0..count {
+        let here = at + 4 * k;
+        let n = numbers::be32(s, here);
         if n < 4 {
             return false;
         }
         if n > 268435455 {
             return false;
         }
-        if has_number(s, next + 4, left, n) {
+        if has_number(s, here + 4, count - k - 1, n) {
             return false;
         }
-        next += 4;
     }
     true
 }
 
 // The four header fields, and a length that is what they make.
+#[tactic(auto, unfolding(scrub_kept::specs::Sheet::header_good))]
 fn header_good(s: &[u8]) -> bool
     ensures { result ≡ header_good s.now }
 {
@@ -146,6 +152,7 @@ fn header_good(s: &[u8]) -> bool
 }
 
 // Keep all: exactly a header, with that number in both counts and 8 in both offsets.
+#[tactic(auto, unfolding(scrub_kept::specs::Sheet::keeps_all))]
 fn keeps_all(s: &[u8]) -> bool
     ensures { result ≡ keeps_all s.now }
 {
@@ -164,64 +171,42 @@ fn keeps_all(s: &[u8]) -> bool
     numbers::be16(s, 6) == 8
 }
 
-// Judges the bytes of a sheet.
-pub fn judge(s: &[u8]) -> Asked
-    ensures { result ≡ sheet_asked s.now }
+// The entries of a sheet with a header of its own, if header and entries are good.
+#[tactic(auto, using(crate::proofs::Header::header_counts), unfolding(crate::specs::Asked::these_asked))]
+fn these(s: &[u8]) -> Option<Asked>
+    ensures { result ≡ these_asked s.now }
 {
-    if s.len() == 0 {
-        return Asked::Nothing;
-    }
-    if keeps_all(s) {
-        return Asked::All;
-    }
     if !header_good(s) {
-        return Asked::Refused;
+        return None;
     }
     let labels = numbers::be16(s, 0) as usize;
     let count = numbers::be16(s, 4) as usize;
-    if !labels_good(s, 8, labels) {
-        return Asked::Refused;
-    }
-    if !numbers_good(s, 8 + 16 * labels, count) {
-        return Asked::Refused;
-    }
-    Asked::These {
-        labels,
-        numbers: count,
+    if labels_good(s, 8, labels) && numbers_good(s, 8 + 16 * labels, count) {
+        Some(Asked::These {
+            labels,
+            numbers: count,
+        })
+    } else {
+        None
     }
 }
 
-// Judges a sheet alone: how many labels and numbers stand on it, or SHEET. The counts of the sheet that keeps all count no entries.
-pub fn check(s: &[u8]) -> Answer
-    ensures { result ≡ sheet_checked s.now }
+// What the bytes of a sheet ask for, or SHEET.
+#[tactic(auto, unfolding(crate::specs::Asked::sheet_asked))]
+fn asked_by(s: &[u8]) -> Result<Asked, Refused>
+    ensures { result ≡ sheet_asked s.now }
 {
-    let asked = judge(s);
-    match asked {
-        Asked::All => Answer::Done(0),
-        Asked::Nothing => Answer::Done(0),
-        Asked::These { labels, numbers } => Answer::Done(labels + numbers),
-        Asked::Refused => Answer::Refused {
-            why: Refusal::Sheet,
-            place: 0,
-        },
+    if s.is_empty() {
+        return Ok(Asked::Nothing);
     }
+    if keeps_all(s) {
+        return Ok(Asked::All);
+    }
+    these(s).ok_or(Refusal::Sheet.at(0))
 }
 
-// Whether a sheet keeps the payloads of the label at `at` of the pack.
-pub fn keeps_label(s: &[u8], asked: Asked, p: &[u8], at: usize) -> bool
-    requires { (at + 16 ≤ length p.now) × EntriesThere s.now asked }
-    ensures { result ≡ keeps (asks s.now asked) (label (take 16 (drop at p.now))) }
-{
-    match asked {
-        Asked::All => true,
-        Asked::Nothing => false,
-        Asked::These { labels, numbers: _ } => has_label(s, 8, labels, p, at),
-        Asked::Refused => false,
-    }
-}
-
-// For each number below 128 whether a sheet keeps its payloads. Most tags have one byte: a pack asks this once, and not the sheet for each payload.
-pub fn short_numbers(s: &[u8], asked: Asked) -> [bool; 128]
+// For each number below 128 whether a sheet keeps its payloads.
+fn short_numbers(s: &[u8], asked: Asked) -> [bool; 128]
     requires { EntriesThere s.now asked }
     ensures { Short (asks s.now asked) result }
 {
@@ -229,22 +214,59 @@ pub fn short_numbers(s: &[u8], asked: Asked) -> [bool; 128]
         Asked::All => [true; 128],
         Asked::Nothing => [false; 128],
         Asked::These { labels, numbers } => short_among(s, 8 + 16 * labels, numbers),
-        Asked::Refused => [false; 128],
     }
 }
 
-// Whether a sheet keeps the payloads of a tag number that the pack does not map. `short` has its answers below 128.
-pub fn keeps_number(s: &[u8], asked: Asked, short: &[bool; 128], n: u32) -> bool
-    requires { EntriesThere s.now asked × Short (asks s.now asked) short.now }
-    ensures { result ≡ keeps (asks s.now asked) (number n) }
+// Judges the bytes of a sheet: what it keeps, or SHEET.
+pub fn judge(s: &[u8]) -> Result<Sheet<'_>, Refused>
+    ensures { result ≡ answered (λ x. x) (sheet_of s.now) }
 {
-    if n < 128 {
-        return short[n as usize];
+    let asked = asked_by(s)?;
+    let short = short_numbers(s, asked);
+    Ok(Sheet {
+        bytes: s,
+        asked,
+        short,
+    })
+}
+
+// Judges a sheet alone: how many labels and numbers stand on it, or SHEET. The counts of the sheet that keeps all count no entries.
+pub fn check(s: &[u8]) -> Result<usize, Refused>
+    ensures { result ≡ sheet_checked s.now }
+{
+    match asked_by(s)? {
+        Asked::All => Ok(0),
+        Asked::Nothing => Ok(0),
+        Asked::These { labels, numbers } => Ok(labels + numbers),
     }
-    match asked {
-        Asked::All => true,
-        Asked::Nothing => false,
-        Asked::These { labels, numbers } => has_number(s, 8 + 16 * labels, numbers, n),
-        Asked::Refused => false,
+}
+
+impl<'a> Sheet<'a> {
+    // Whether the sheet keeps the payloads of the label at `at` of the pack.
+    #[tactic(auto, unfolding(runs::specs::Same::listed))]
+    pub fn keeps_label(&self, p: &[u8], at: usize) -> bool
+        requires { at + 16 ≤ length p.now }
+        ensures { result ≡ keeps self.now (label (take 16 (drop at p.now))) }
+    {
+        match self.asked {
+            Asked::All => true,
+            Asked::Nothing => false,
+            Asked::These { labels, numbers: _ } => has_label(self.bytes, 8, labels, p, at),
+        }
+    }
+
+    // Whether the sheet keeps the payloads of a tag number that the pack does not map.
+    #[tactic(auto, unfolding(runs::specs::Same::among))]
+    pub fn keeps_number(&self, n: u32) -> bool
+        ensures { result ≡ keeps self.now (number n) }
+    {
+        if n < 128 {
+            return self.short[n as usize];
+        }
+        match self.asked {
+            Asked::All => true,
+            Asked::Nothing => false,
+            Asked::These { labels, numbers } => has_number(self.bytes, 8 + 16 * labels, numbers, n),
+        }
     }
 }

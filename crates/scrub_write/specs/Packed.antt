@@ -1,5 +1,5 @@
 -- Inner. A pack, as it is written.
-use Rattle.std.specs.Prelude.{◌≡◌, List, [], ◌∷◌, ◌++◌, ℕ, ◌+◌, ◌<◌, ◌≤◌, length, take}
+use Rattle.std.specs.Prelude.{◌≡◌, List, [], ◌∷◌, ◌++◌, Option, ℕ, ◌+◌, ◌<◌, ◌≤◌, length}
 use Rattle.runs.specs.Digits.{digits}
 use Rattle.runs.specs.Those.{Each}
 use Rattle.refusals.specs.Outcomes.{fine}
@@ -8,9 +8,9 @@ use Rattle.crc.specs.Crc.{crc_of}
 use Rattle.pack.specs.Fixed.{key}
 use Rattle.scrub_kept.specs.Scrubbed.{leaves}
 use Rattle.scrub_ops.specs.declared.Op.{Op}
-use Rattle.scrub_ops.specs.Ops.{ops_in, ops_bytes, OpFits}
-use Rattle.scrub_config.specs.declared.Measured.{Measured}
-use Rattle.scrub_config.specs.Entries.{config_at, EntriesFit}
+use Rattle.scrub_ops.specs.Ops.{ops_bytes, SomeFits}
+use Rattle.scrub_config.specs.declared.Mapping.{Mapping}
+use Rattle.scrub_config.specs.Entries.{config_at, MappingFits}
 
 -- key, length, content, and the CRC's tag and length
 abbrev pub framed : List ℕ → List ℕ
@@ -26,18 +26,13 @@ pub record Packed (before b : List ℕ) (answer : ℕ) (after : List ℕ) : Type
   pub buffer : after ≡ leaves before (fine b)
 
 -- what stands between the pack's length and its CRC
-abbrev pub content_at : List ℕ → ℕ → List ℕ → List ℕ → List ℕ → List Op → List ℕ
-content_at s offset places order tags ops = config_at s offset places order tags ++ ops_bytes s ops
-
--- the same of the pack that these arrays and numbers lay out
-abbrev pub laid_out : List ℕ → List ℕ → List ℕ → List ℕ → List ℕ → Measured → List ℕ
-laid_out s places order tags ops measured = content_at s measured.offset places (take measured.labels order) tags (take measured.writes (ops_in ops))
+abbrev pub content_at : List ℕ → ℕ → List Mapping → List (Option Op) → List ℕ
+content_at s offset ms ops = config_at s offset ms ++ ops_bytes s ops
 
 -- a pack that can be written: its parts can, and its size is known
-pub record Packs (s places order tags ops : List ℕ) (measured : Measured) : Type 0 where
-  pub few : (measured.labels ≤ 64) × (measured.writes ≤ 64)
-  pub mapped : length (take measured.labels order) ≡ measured.labels
-  pub entries : EntriesFit s places (take measured.labels order) tags
-  pub writes : Each (OpFits s) (take measured.writes (ops_in ops))
-  pub counted : measured.size ≡ length (laid_out s places order tags ops measured) + 6
-  pub small : measured.size < 4000000
+pub record Packs (s : List ℕ) (offset : ℕ) (ms : List Mapping) (ops : List (Option Op)) (size : ℕ) : Type 0 where
+  pub few : length ms ≤ 64
+  pub mappings : Each (MappingFits s) ms
+  pub writes : Each (SomeFits s) ops
+  pub counted : size ≡ length (content_at s offset ms ops) + 6
+  pub small : size < 4000000

@@ -4,9 +4,10 @@ ghost use Rattle.std.specs.Prelude.{[], ◌∷◌, ◌++◌, ◌+◌, ◌≤◌,
 ghost use Rattle.runs.specs.Over.{Wrote};
 ghost use Rattle.numbers.specs.Lengths.{length_bytes};
 ghost use Rattle.pack.specs.Fixed.{key};
-ghost use Rattle.scrub_write.specs.Packed.{framed, sealed, Packed, laid_out, Packs};
+ghost use Rattle.scrub_write.specs.Packed.{framed, sealed, Packed, content_at, Packs};
 
-use scrub_config::Measured;
+use scrub_config::Mapping;
+use scrub_ops::Op;
 
 const KEY: [u8; 16] = [
     0x06, 0x0E, 0x2B, 0x34, 0x02, 0x7F, 0x01, 0x01, 0x0C, 0x04, 0x01, 0x00, 0x00, 0x00, 0x00, 0x00,
@@ -36,25 +37,20 @@ fn write_close(out: &mut [u8], at: usize) -> usize
     end
 }
 
-// The whole pack, and 0 to the buffer's end.
+// The whole pack, and 0 to the buffer's end. `size` is how many bytes the pack's value takes.
 pub fn write_pack(
     p: &[u8],
-    measured: Measured,
-    places: &[u32; 32],
-    order: &[u32; 64],
-    tags: &[u32; 64],
-    ops: &[u32; 256],
+    offset: u16,
+    mappings: &[Mapping],
+    ops: &[Option<Op>],
+    size: usize,
     out: &mut [u8],
 ) -> usize
-    requires { Packs p.now places.now order.now tags.now ops.now measured × (16 + length (length_bytes measured.size) + measured.size ≤ length out.old) }
-    ensures { Packed out.old (sealed (framed (laid_out p.now places.now order.now tags.now ops.now measured))) result out.new }
+    requires { Packs p.now offset mappings.now ops.now size × (16 + length (length_bytes size) + size ≤ length out.old) }
+    ensures { Packed out.old (sealed (framed (content_at p.now offset mappings.now ops.now))) result out.new }
 {
-    // slices, whose lengths are known
-    let places: &[u32] = places;
-    let order: &[u32] = order;
-    let tags: &[u32] = tags;
-    let a = write_start(out, measured.size);
-    let b = scrub_config::write_config(p, measured, places, order, tags, out, a);
-    let c = scrub_ops::write_ops(p, ops, measured.writes, out, b);
+    let a = write_start(out, size);
+    let b = scrub_config::write_config(p, offset, mappings, out, a);
+    let c = scrub_ops::write_ops(p, ops, out, b);
     write_close(out, c)
 }

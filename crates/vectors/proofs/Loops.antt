@@ -87,10 +87,14 @@ module _ {s before now : List ℕ} {n at : ℕ} (t : Taking s before now n at) w
   pub taking_cut : length s - at < 4 → (n ≤ length now) × Wrote before 0 (fours (length before) s 0) n now
   taking_cut h = (t.inside, writing_done (writing_as (fours_cut (length now - n) s at h) t.writing))
 
-  pub taking_ends : length now ≤ n → (n ≤ length now) × Wrote before 0 (fours (length before) s 0) n now
+  pub taking_ends : length now ≤ n → (length now ≤ length now) × Wrote before 0 (fours (length before) s 0) (length now) now
   unfolding fours
   taking_ends h =
-      (t.inside, writing_done (writing_as (ap (λ (k : ℕ). fours k s at) (let e : length now - n ≡ 0 = omega arith in e)) t.writing))
+      let i = t.inside in
+      let all : n ≡ length now = omega arith in
+      let none : length now - n ≡ 0 = omega arith in
+      let whole = writing_done (writing_as (ap (λ (k : ℕ). fours k s at) none) t.writing) in
+      (omega arith, subst (λ (k : ℕ). Wrote before 0 (fours (length before) s 0) k now) all whole)
 
 -- PARTS THAT ARE JOINED
 

@@ -3,183 +3,90 @@
 
 ghost use Rattle.std.specs.Prelude.{◌≤◌, ◌+◌, ◌<◌, ◌*◌, ◌^◌, length};
 
-use numbers::{LengthRead, TagRead};
+use numbers::Fault;
 use std::io;
 use std::io::Write;
-
-fn text(to: &mut impl Write, s: &[u8]) -> io::Result<()> {
-    to.write_all(s)
-}
-
-fn decimal(to: &mut impl Write, n: u64) -> io::Result<()> {
-    write!(to, "{n}")
-}
-
-fn wide(n: u32) -> u64 {
-    n as u64
-}
-
-fn far(n: usize) -> u64 {
-    n as u64
-}
-
-fn byte(to: &mut impl Write, b: u8) -> io::Result<()> {
-    write!(to, "{b:02x}")
-}
-
-// The bytes of `s` in hexadecimal, a space before each.
-fn bytes(to: &mut impl Write, s: &[u8]) -> io::Result<()> {
-    for b in s {
-        text(to, b" ")?;
-        byte(to, *b)?;
-    }
-    Ok(())
-}
-
-// The first n bytes of `s`.
-fn first(to: &mut impl Write, s: &[u8], n: usize) -> io::Result<()> {
-    if n <= s.len() {
-        bytes(to, &s[0..n])?;
-    }
-    Ok(())
-}
-
-// A number and how it is written: the first `end` bytes of `out`.
-fn written(to: &mut impl Write, name: &[u8], n: u32, out: &[u8], end: usize) -> io::Result<()> {
-    text(to, name)?;
-    decimal(to, wide(n))?;
-    text(to, b" is")?;
-    first(to, out, end)?;
-    text(to, b",")
-}
-
-// What is read where these bytes stand.
-fn standing(to: &mut impl Write, name: &[u8], s: &[u8]) -> io::Result<()> {
-    text(to, name)?;
-    bytes(to, s)?;
-    text(to, b":")
-}
-
-// A number that was read, and the place after it.
-fn read(to: &mut impl Write, n: u64, next: usize) -> io::Result<()> {
-    text(to, b" read ")?;
-    decimal(to, n)?;
-    text(to, b" in ")?;
-    decimal(to, far(next))
-}
+use vectors::Hex;
 
 // The tag `t`: as it is written, and as it is read back with other bytes after it.
 fn tag(to: &mut impl Write, t: u32) -> io::Result<()>
     requires { t < 128 ^ 4 }
 {
     let mut out = [0xEEu8; 8];
-    let end = put_tag(&mut out, t);
-    written(to, b"tag ", t, &out, end)?;
+    let end = numbers::write_tag(&mut out, 0, t);
+    write!(to, "tag {t} is{},", Hex(&out[0..end]))?;
     tag_at(to, &out)
-}
-
-fn put_tag(out: &mut [u8], t: u32) -> usize
-    requires { t < 128 ^ 4 }
-{
-    if numbers::tag_size(t) <= out.len() {
-        return numbers::write_tag(out, 0, t);
-    }
-    0
 }
 
 // What reading a tag at the start of `s` finds.
 fn tag_at(to: &mut impl Write, s: &[u8]) -> io::Result<()> {
     match numbers::read_tag(s, 0) {
-        TagRead::Tag { tag, next } => read(to, wide(tag), next)?,
-        TagRead::Bad => text(to, b" bad")?,
-        TagRead::Cut => text(to, b" cut")?,
+        Ok((tag, next)) => writeln!(to, " read {tag} in {next}"),
+        Err(Fault::Form) => writeln!(to, " bad"),
+        Err(Fault::Cut) => writeln!(to, " cut"),
     }
-    text(to, b"\n")
 }
 
 fn tag_bytes(to: &mut impl Write, s: &[u8]) -> io::Result<()> {
-    standing(to, b"tag at", s)?;
+    write!(to, "tag at{}:", Hex(s))?;
     tag_at(to, s)
 }
 
 // The length `n`: as it is written, and as it is read back with other bytes after it.
 fn len(to: &mut impl Write, n: u32) -> io::Result<()> {
     let mut out = [0xEEu8; 8];
-    let end = put_length(&mut out, n);
-    written(to, b"length ", n, &out, end)?;
+    let end = numbers::write_length(&mut out, 0, n);
+    write!(to, "length {n} is{},", Hex(&out[0..end]))?;
     len_at(to, &out)
 }
 
-fn put_length(out: &mut [u8], n: u32) -> usize {
-    if numbers::length_size(n) <= out.len() {
-        return numbers::write_length(out, 0, n);
-    }
-    0
-}
-
+// What reading a length at the start of `s` finds.
 fn len_at(to: &mut impl Write, s: &[u8]) -> io::Result<()> {
     match numbers::read_length(s, 0) {
-        LengthRead::Length { len, next } => read(to, len, next)?,
-        LengthRead::Forbidden => text(to, b" forbidden")?,
-        LengthRead::Cut => text(to, b" cut")?,
+        Ok((len, next)) => writeln!(to, " read {len} in {next}"),
+        Err(Fault::Form) => writeln!(to, " forbidden"),
+        Err(Fault::Cut) => writeln!(to, " cut"),
     }
-    text(to, b"\n")
 }
 
 fn len_bytes(to: &mut impl Write, s: &[u8]) -> io::Result<()> {
-    standing(to, b"length at", s)?;
+    write!(to, "length at{}:", Hex(s))?;
     len_at(to, s)
 }
 
-fn crc_line(to: &mut impl Write, s: &[u8]) -> io::Result<()> {
-    text(to, b": ")?;
-    write!(to, "{:08x}", wide(crc::crc(s)))?;
-    text(to, b"\n")
-}
-
-fn crc_of(to: &mut impl Write, name: &[u8], s: &[u8]) -> io::Result<()> {
-    text(to, b"crc of ")?;
-    text(to, name)?;
-    crc_line(to, s)
+fn crc_of(to: &mut impl Write, name: &str, s: &[u8]) -> io::Result<()> {
+    writeln!(to, "crc of {name}: {:08x}", crc::crc(s))
 }
 
 // The field of `w` bits from bit `at` on.
 fn field(to: &mut impl Write, s: &[u8], at: usize, w: usize) -> io::Result<()>
     requires { (w ≤ 15) × ((at + w ≤ 8 * length s.now) × (length s.now ≤ 65536)) }
 {
-    text(to, b"field")?;
-    bytes(to, s)?;
-    text(to, b", ")?;
-    decimal(to, far(w))?;
-    text(to, b" bits from ")?;
-    decimal(to, far(at))?;
-    text(to, b": ")?;
-    decimal(to, wide(bits::fetch(s, at, w)))?;
-    text(to, b"\n")
+    let v = bits::fetch(s, at, w);
+    writeln!(to, "field{}, {w} bits from {at}: {v}", Hex(s))
 }
 
 // A section's CRC without its last four bytes, which hold it, and with them.
-fn section(to: &mut impl Write, name: &[u8], s: &[u8]) -> io::Result<()>
+fn section(to: &mut impl Write, name: &str, s: &[u8]) -> io::Result<()>
     requires { 4 ≤ length s.now }
 {
     let end = s.len() - 4;
-    crc_of(to, name, &s[0..end])?;
-    text(to, b"  and with its last four bytes")?;
-    bytes(to, &s[end..])?;
-    crc_line(to, s)
+    crc_of(to, name, &s[..end])?;
+    let all = crc::crc(s);
+    writeln!(
+        to,
+        "  and with its last four bytes{}: {all:08x}",
+        Hex(&s[end..])
+    )
 }
 
-// Whether a 16-bit number read as two's complement is `v`, which is written `name`.
-fn sign(to: &mut impl Write, n: u16, v: i64, name: &[u8]) -> io::Result<()> {
-    text(to, b"signed ")?;
-    decimal(to, n as u64)?;
+// Whether a 16-bit number read as two's complement is `v`.
+fn sign(to: &mut impl Write, n: u16, v: i64) -> io::Result<()> {
     if numbers::signed32(numbers::extended(n)) == v {
-        text(to, b" is ")?;
+        writeln!(to, "signed {n} is {v}")
     } else {
-        text(to, b" is not ")?;
+        writeln!(to, "signed {n} is not {v}")
     }
-    text(to, name)?;
-    text(to, b"\n")
 }
 
 // 01's examples, and the forms that are refused.
@@ -215,17 +122,17 @@ fn lengths(to: &mut impl Write) -> io::Result<()> {
 }
 
 fn signs(to: &mut impl Write) -> io::Result<()> {
-    sign(to, 0, 0, b"0")?;
-    sign(to, 32767, 32767, b"32767")?;
-    sign(to, 32768, -32768, b"-32768")?;
-    sign(to, 65535, -1, b"-1")
+    sign(to, 0, 0)?;
+    sign(to, 32767, 32767)?;
+    sign(to, 32768, -32768)?;
+    sign(to, 65535, -1)
 }
 
 // The check value of the catalogue of parametrised CRC algorithms (CRC-32/MPEG-2).
 fn crcs(to: &mut impl Write) -> io::Result<()> {
-    crc_of(to, b"nothing", b"")?;
-    crc_of(to, b"123456789", b"123456789")?;
-    crc_of(to, b"123456789 and its CRC", b"123456789\x03\x76\xE6\xE7")
+    crc_of(to, "nothing", b"")?;
+    crc_of(to, "123456789", b"123456789")?;
+    crc_of(to, "123456789 and its CRC", b"123456789\x03\x76\xE6\xE7")
 }
 
 // Sections that FFmpeg's MPEG-2 transport stream muxer sends: the association of program 1 with PID 1000h, its map with one H.264 and
@@ -233,17 +140,17 @@ fn crcs(to: &mut impl Write) -> io::Result<()> {
 fn sections(to: &mut impl Write) -> io::Result<()> {
     section(
         to,
-        b"PAT",
+        "PAT",
         b"\x00\xB0\x0D\x00\x01\xC1\x00\x00\x00\x01\xF0\x00\x2A\xB1\x04\xB2",
     )?;
     section(
         to,
-        b"PMT",
+        "PMT",
         b"\x02\xB0\x17\x00\x01\xC1\x00\x00\xE1\x00\xF0\x00\x1B\xE1\x00\xF0\x00\x0F\xE1\x01\xF0\x00\x2F\x44\xB9\x9B",
     )?;
     section(
         to,
-        b"SDT",
+        "SDT",
         b"\x42\xF0\x25\x00\x01\xC1\x00\x00\xFF\x01\xFF\x00\x01\xFC\x80\x14\x48\x12\x01\x06\x46\x46\x6D\x70\x65\x67\x09\x53\x65\x72\x76\x69\x63\x65\x30\x31\x77\x7C\x43\xCA",
     )
 }
@@ -253,22 +160,22 @@ fn sections(to: &mut impl Write) -> io::Result<()> {
 fn messages(to: &mut impl Write) -> io::Result<()> {
     section(
         to,
-        b"placement opportunity start",
+        "placement opportunity start",
         b"\xFC\x30\x34\x00\x00\x00\x00\x00\x00\xFF\xFF\xF0\x05\x06\xFE\x72\xBD\x00\x50\x00\x1E\x02\x1C\x43\x55\x45\x49\x48\x00\x00\x8E\x7F\xCF\x00\x01\xA5\x99\xB0\x08\x08\x00\x00\x00\x00\x2C\xA0\xA1\x8A\x34\x02\x00\x9A\xC9\xD1\x7E",
     )?;
     section(
         to,
-        b"splice insert",
+        "splice insert",
         b"\xFC\x30\x2F\x00\x00\x00\x00\x00\x00\xFF\xFF\xF0\x14\x05\x48\x00\x00\x8F\x7F\xEF\xFE\x73\x69\xC0\x2E\xFE\x00\x52\xCC\xF5\x00\x00\x00\x00\x00\x0A\x00\x08\x43\x55\x45\x49\x00\x00\x01\x35\x62\xDB\xA3\x0A",
     )?;
     section(
         to,
-        b"placement opportunity end",
+        "placement opportunity end",
         b"\xFC\x30\x2F\x00\x00\x00\x00\x00\x00\xFF\xFF\xF0\x05\x06\xFE\x74\x62\x90\xA0\x00\x19\x02\x17\x43\x55\x45\x49\x48\x00\x00\x8E\x7F\x9F\x08\x08\x00\x00\x00\x00\x2C\xA0\xA1\x8A\x35\x02\x00\xA9\xCC\x67\x58",
     )?;
     section(
         to,
-        b"program start and end",
+        "program start and end",
         b"\xFC\x30\x48\x00\x00\x00\x00\x00\x00\xFF\xFF\xF0\x05\x06\xFE\x7A\x4D\x88\xB6\x00\x32\x02\x17\x43\x55\x45\x49\x48\x00\x00\x18\x7F\x9F\x08\x08\x00\x00\x00\x00\x2C\xCB\xC3\x44\x11\x00\x00\x02\x17\x43\x55\x45\x49\x48\x00\x00\x19\x7F\x9F\x08\x08\x00\x00\x00\x00\x2C\xA4\xDB\xA0\x10\x00\x00\x99\x72\xE3\x43",
     )
 }
@@ -278,7 +185,7 @@ fn fields_of(to: &mut impl Write, s: &[u8], w: usize) -> io::Result<()>
     requires { (w ≤ 15) × ((3 ≤ length s.now) × (length s.now ≤ 65536)) }
 {
     for bit in 0..8 {
-        let covering = (bit + w + 7) / 8;
+        let covering = (bit + w).div_ceil(8);
         field(to, s, bit, w)?;
         field(to, s, 8 * (s.len() - covering) + bit, w)?;
     }

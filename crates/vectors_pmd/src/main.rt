@@ -3,251 +3,150 @@
 // says how a case is laid out; the answers are the reference implementation's.
 #![tactic(auto)]
 
-ghost use Rattle.std.specs.Prelude.{◌<◌, ◌≤◌, length, take, IfOk};
-ghost use Rattle.std.specs.Io.KnownBytes.{Consumes, IsAtEnd};
-
 use pmd::Level;
-use refusals::{Answer, Refusal};
+use refusals::Refused;
+use std::alloc::Global;
 use std::io;
 use std::io::{Read, Write};
+use vectors::Hex;
 
 // How much of a lent run is printed.
 const SHOWN: usize = 12;
 
-// Prints a text as it is.
-fn text(to: &mut impl Write, s: &[u8]) -> io::Result<()> {
-    to.write_all(s)
-}
+// An input of more bytes than these is cut off.
+const INPUT: u64 = 65536;
 
-// A number in decimal.
-fn decimal(to: &mut impl Write, n: u64) -> io::Result<()> {
-    write!(to, "{n}")
-}
+// What the parts of a case make up at most, and the longest runs of numbers and of bytes that are lent.
+const GIVEN: usize = 132096;
 
-fn wide(n: u32) -> u64 {
-    n as u64
-}
+const NUMBERS: usize = 9828;
 
-// A number with a text before it.
-fn number(to: &mut impl Write, before: &[u8], n: u32) -> io::Result<()> {
-    text(to, before)?;
-    decimal(to, wide(n))
-}
+const BYTES: usize = 8192;
 
-// A count or a place with a text before it.
-fn count(to: &mut impl Write, before: &[u8], n: usize) -> io::Result<()> {
-    text(to, before)?;
-    decimal(to, n as u64)
-}
-
-fn byte(to: &mut impl Write, b: u8) -> io::Result<()> {
-    write!(to, "{b:02x}")
-}
-
-// The bytes of a run in hexadecimal, a space before each.
-fn bytes(to: &mut impl Write, s: &[u8]) -> io::Result<()> {
-    for b in s {
-        text(to, b" ")?;
-        byte(to, *b)?;
-    }
-    Ok(())
+fn cut(to: &mut impl Write) -> io::Result<()> {
+    writeln!(to, "the cases are cut off")
 }
 
 // A refusal: its number in document 01 and its place.
-fn refused(to: &mut impl Write, why: Refusal, place: usize) -> io::Result<()> {
-    number(to, b"refused ", refusals::number(why))?;
-    count(to, b" at ", place)
+fn refused(to: &mut impl Write, r: Refused) -> io::Result<()> {
+    let place = r.place;
+    write!(to, "refused {} at {place}", r.why.number())
 }
 
 // An answer: a count or a refusal.
-fn told(to: &mut impl Write, answer: Answer) -> io::Result<()> {
+fn told(to: &mut impl Write, answer: Result<usize, Refused>) -> io::Result<()> {
     match answer {
-        Answer::Done(n) => count(to, b"done ", n)?,
-        Answer::Refused { why, place } => refused(to, why, place)?,
+        Ok(n) => write!(to, "done {n}")?,
+        Err(r) => refused(to, r)?,
     }
-    text(to, b";")
-}
-
-// The CRC of a run, at the end of a line.
-fn crc_of(to: &mut impl Write, s: &[u8]) -> io::Result<()> {
-    text(to, b", crc ")?;
-    write!(to, "{:08x}", wide(crc::crc(s)))?;
-    text(to, b"\n")
-}
-
-// How much of a run of n is printed.
-fn shown(n: usize) -> usize
-    ensures { result ≤ n }
-{
-    if n < SHOWN { n } else { SHOWN }
-}
-
-// The first bytes of a run.
-fn shown_bytes(to: &mut impl Write, s: &[u8]) -> io::Result<()> {
-    let end = shown(s.len());
-    bytes(to, &s[0..end])
-}
-
-// The first numbers of a run.
-fn shown_numbers(to: &mut impl Write, s: &[u32]) -> io::Result<()> {
-    let end = shown(s.len());
-    for n in &s[0..end] {
-        number(to, b" ", *n)?;
-    }
-    Ok(())
-}
-
-// A number and its sign.
-fn signed(to: &mut impl Write, n: i32) -> io::Result<()> {
-    write!(to, "{n}")
-}
-
-fn cut(to: &mut impl Write) -> io::Result<()> {
-    text(to, b"the cases are cut off\n")
-}
-
-// What is asked, before the answer.
-fn asked(to: &mut impl Write, kind: u32, n: usize, given: &[u8], room: usize) -> io::Result<()> {
-    number(to, b"kind ", kind)?;
-    count(to, b", ", n)?;
-    text(to, given)?;
-    count(to, b", room ", room)?;
-    text(to, b": ")
+    write!(to, ";")
 }
 
 // Reads a value into a run of so many numbers.
-fn read(to: &mut impl Write, kind: u32, value: &[u8], room: usize) -> io::Result<()> {
-    let mut numbers = [99999u32; 9828];
-    if numbers.len() < room {
+fn read(
+    to: &mut impl Write,
+    alloc: Global,
+    kind: u32,
+    value: &[u8],
+    room: usize,
+) -> io::Result<()> {
+    if NUMBERS < room {
         return cut(to);
     }
-    text(to, b"read ")?;
-    asked(to, kind, value.len(), b" bytes", room)?;
-    read_run(to, kind, value, &mut numbers[0..room])
+    let mut run = vec![in alloc; 99999u32; room]?;
+    let size = value.len();
+    write!(to, "read kind {kind}, {size} bytes, room {room}: ")?;
+    told(to, pmd_read::pmd_read(kind, value, &mut run))?;
+    for n in run.iter().take(SHOWN) {
+        write!(to, " {n}")?;
+    }
+    let mut bytes = vec![in alloc; 0u8; 4 * room]?;
+    let laid = vectors::laid(&run, &mut bytes);
+    writeln!(to, ", crc {:08x}", crc::crc(&bytes[0..laid]))
 }
 
-fn read_run(to: &mut impl Write, kind: u32, value: &[u8], run: &mut [u32]) -> io::Result<()> {
-    let mut bytes = [0u8; 39312];
-    let answer = pmd_read::pmd_read(kind, value, &mut *run);
-    told(to, answer)?;
-    shown_numbers(to, run)?;
-    let n = vectors::laid(run, &mut bytes);
-    crc_of(to, &bytes[0..n])
-}
-
-// Writes numbers into a run of so many bytes.
-fn write(to: &mut impl Write, kind: u32, numbers: &[u32], room: usize) -> io::Result<()> {
-    let mut bytes = [0xEEu8; 8192];
-    if bytes.len() < room {
+// Writes the numbers that these bytes are into a run of so many bytes.
+fn write(
+    to: &mut impl Write,
+    alloc: Global,
+    kind: u32,
+    given: &[u8],
+    room: usize,
+) -> io::Result<()> {
+    if BYTES < room {
         return cut(to);
     }
-    text(to, b"write ")?;
-    asked(to, kind, numbers.len(), b" numbers", room)?;
-    write_run(to, kind, numbers, &mut bytes[0..room])
-}
-
-fn write_run(to: &mut impl Write, kind: u32, numbers: &[u32], run: &mut [u8]) -> io::Result<()> {
-    let answer = pmd_write::pmd_write(kind, numbers, &mut *run);
-    told(to, answer)?;
-    shown_bytes(to, run)?;
-    crc_of(to, run)
-}
-
-fn write_given(to: &mut impl Write, kind: u32, given: &[u8], room: usize) -> io::Result<()> {
-    let mut numbers = [0u32; 33024];
-    let n = vectors::taken(given, &mut numbers);
-    write(to, kind, &numbers[0..n], room)
+    let mut numbers = vec![in alloc; 0u32; given.len() / 4]?;
+    let count = vectors::taken(given, &mut numbers);
+    let mut run = vec![in alloc; 0xEEu8; room]?;
+    write!(to, "write kind {kind}, {count} numbers, room {room}: ")?;
+    told(to, pmd_write::pmd_write(kind, &numbers[0..count], &mut run))?;
+    let shown = run.len().min(SHOWN);
+    writeln!(to, "{}, crc {:08x}", Hex(&run[0..shown]), crc::crc(&run))
 }
 
 fn level(to: &mut impl Write, gain: u32) -> io::Result<()> {
-    number(to, b"gain ", gain)?;
-    text(to, b": ")?;
+    write!(to, "gain {gain}: ")?;
     match pmd::gain(gain) {
-        Level::Muted => text(to, b"muted")?,
-        Level::HalfDecibels(n) => signed(to, n)?,
-        Level::Refused { why, place } => refused(to, why, place)?,
+        Ok(Level::Muted) => write!(to, "muted")?,
+        Ok(Level::HalfDecibels(n)) => write!(to, "{n}")?,
+        Err(r) => refused(to, r)?,
     }
-    text(to, b"\n")
+    writeln!(to)
 }
 
-fn run(to: &mut impl Write, call: u8, number: u32, room: usize, parts: &[u8]) -> io::Result<()> {
-    let mut given = [0u8; 132096];
-    let n = vectors::joined(parts, &mut given);
+fn run(
+    to: &mut impl Write,
+    alloc: Global,
+    call: u8,
+    number: u32,
+    room: usize,
+    parts: &[u8],
+) -> io::Result<()> {
+    let mut given = vec![in alloc; 0u8; GIVEN]?;
+    let size = vectors::joined(parts, &mut given);
+    given.truncate(size);
     match call {
-        b'r' => read(to, number, &given[0..n], room),
-        b'w' => write_given(to, number, &given[0..n], room),
+        b'r' => read(to, alloc, number, &given, room),
+        b'w' => write(to, alloc, number, &given, room),
         b'g' => level(to, number),
         _ => cut(to),
     }
 }
 
-// Where the parts of a case begin whose name has n bytes.
-fn after_name(n: u8) -> usize
-    ensures { 10 ≤ result }
-{
-    10 + n as usize
-}
-
-// A case without the length before it.
-fn case(to: &mut impl Write, s: &[u8]) -> io::Result<()> {
-    if s.len() < 10 {
+// A case without the length before it: ten bytes, the last of which is the length of its name, then the name and the parts.
+fn case(to: &mut impl Write, alloc: Global, s: &[u8]) -> io::Result<()> {
+    let Some((head, rest)) = s.split_first_chunk::<10>() else {
         return cut(to);
-    }
-    let begin = after_name(s[9]);
-    if s.len() < begin {
+    };
+    let Some((name, parts)) = rest.split_at_checked(usize::from(head[9])) else {
         return cut(to);
-    }
-    text(to, &s[10..begin])?;
-    text(to, b": ")?;
-    run(
-        to,
-        s[0],
-        numbers::be32(s, 1),
-        numbers::be32(s, 5) as usize,
-        &s[begin..],
-    )
+    };
+    to.write_all(name)?;
+    write!(to, ": ")?;
+    let number = numbers::be32(head, 1);
+    let room = numbers::be32(head, 5) as usize;
+    run(to, alloc, head[0], number, room, parts)
 }
 
 // All cases, one after the other.
-fn cases(to: &mut impl Write, s: &[u8]) -> io::Result<()> {
-    let mut n: usize = 0;
-    let mut at: usize = 0;
-    while 4 <= s.len() - at {
-        let size = numbers::be32(s, at) as usize;
-        let begin = at + 4;
-        if s.len() - begin < size {
+fn cases(to: &mut impl Write, alloc: Global, all: &[u8]) -> io::Result<()> {
+    let mut n = 0usize;
+    let mut left = all;
+    while let Some((size, rest)) = left.split_first_chunk::<4>() {
+        let size = u32::from_be_bytes(*size) as usize;
+        let Some((first, rest)) = rest.split_at_checked(size) else {
             return cut(to);
-        }
-        case(to, &s[begin..begin + size])?;
-        at = begin + size;
+        };
+        case(to, alloc, first)?;
+        left = rest;
         n += 1;
     }
-    count(to, b"", n)?;
-    text(to, b" cases\n")
+    writeln!(to, "{n} cases")
 }
 
-// Fills `buf` with the bytes that come next, and answers how many there were: fewer only where the input ends.
-fn read_full<R: Read>(input: &mut R, buf: &mut [u8]) -> io::Result<usize>
-    ensures upper_bound { IfOk result (λ n. n ≤ length buf.new) }
-    ensures consumed { IfOk result (λ n. Consumes (R.remaining input.old) (R.remaining input.new) (take n buf.new)) }
-    ensures ended { IfOk result (λ n. n < length buf.new → IsAtEnd (R.remaining input.new)) }
-{
-    let mut n: usize = 0;
-    while n < buf.len() {
-        let more = input.read(&mut buf[n..])?;
-        if more == 0 {
-            return Ok(n);
-        }
-        n += more;
-    }
-    Ok(n)
-}
-
-// An input of more bytes than these is cut off.
 fn main(rt: HostRuntime) -> io::Result<()> {
-    let mut all = [0u8; 65536];
-    let mut input = rt.reader();
-    let n = read_full(&mut input, &mut all)?;
-    let mut out = io::writer(&rt);
-    cases(&mut out, &all[0..n])
+    let mut all = Vec::new(rt.alloc());
+    rt.reader().take(INPUT).read_to_end(&mut all)?;
+    cases(&mut io::writer(&rt), rt.alloc(), &all)
 }

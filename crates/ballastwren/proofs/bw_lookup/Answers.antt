@@ -4,4 +4,4 @@ use Rattle.ballastwren.specs.Told.{told_found_of}
 use Rattle.ballastwren.proofs.bw_lookup.Goals as goal
 
 pub returns : goal.returns
-returns c = c.told_found.ensures ∙ ap told_found_of c.lookup-found.ensures
+returns c = c.from.ensures ∙ ap told_found_of c.lookup.ensures

@@ -3,4 +3,4 @@ use Rattle.refusals.proofs.One.{lends_told}
 use Rattle.ballastwren.proofs.bw_pmd_read.Goals as goal
 
 pub returns : goal.returns
-returns c = lends_told c.pmd_read-a.ensures c.told_answer.ensures
+returns c = lends_told c.pmd_read.ensures c.from.ensures

@@ -3,4 +3,4 @@ use Rattle.refusals.proofs.One.{lends_told}
 use Rattle.ballastwren.proofs.bw_pmd_write.Goals as goal
 
 pub returns : goal.returns
-returns c = lends_told c.pmd_write-a.ensures c.told_answer.ensures
+returns c = lends_told c.pmd_write.ensures c.from.ensures

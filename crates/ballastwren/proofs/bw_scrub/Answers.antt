@@ -3,4 +3,4 @@ use Rattle.refusals.proofs.One.{lends_told}
 use Rattle.ballastwren.proofs.bw_scrub.Goals as goal
 
 pub returns : goal.returns
-returns c = lends_told c.scrub-a.ensures c.told_answer.ensures
+returns c = lends_told c.scrub.ensures c.from.ensures

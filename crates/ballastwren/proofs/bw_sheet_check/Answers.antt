@@ -4,4 +4,4 @@ use Rattle.ballastwren.specs.Told.{told_of}
 use Rattle.ballastwren.proofs.bw_sheet_check.Goals as goal
 
 pub returns : goal.returns
-returns c = c.told_answer.ensures ∙ ap told_of c.check-a.ensures
+returns c = c.from.ensures ∙ ap told_of c.check.ensures

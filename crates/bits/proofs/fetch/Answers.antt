@@ -15,7 +15,7 @@ use Rattle.bits.specs.Bits.{bits, field_at}
 use Rattle.bits.proofs.Bits.{bits_drop}
 use Rattle.bits.proofs.Fields.{field_lt, field_none, field_join}
 use Rattle.bits.proofs.fetch.Goals as goal
-use Rattle.bits.proofs.fetch.Goals.{Else-end-gt8, Start, Then-end-gt16, Then-end-gt8}
+use Rattle.bits.proofs.fetch.Goals.{then-end-gt16, else-end-gt16+then-end-gt8, else-end-gt16+else-end-gt8}
 
 -- a field with o bits before it and r after it
 inside : (s : List ℕ) (p o w r : ℕ) → p + o + w + r ≤ 8 * length s → field_at s p (o + w + r) / 2 ^ r % 2 ^ w ≡ field_at s (p + o) w
@@ -69,88 +69,22 @@ returns-then-w-eq0 c =
     let a = c.args in
     sym (field_none a.s.now a.at) ∙ ap (field_at a.s.now a.at) (let e : 0 ≡ a.w = omega arith in e)
 
--- the byte in which a field begins
-abbrev at_byte : Start → ℕ
-at_byte c = c.args.at / 8
-
-bytes_3 : (c : Then-end-gt16) → Bytes c.args.s.now
-bytes_3 c k = omega (arith, c.type_inv.s k)
-
-pub overflow_cast-three : goal.overflow_cast-three
-overflow_cast-three c = omega (arith, bytes_3 (goal.at.overflow_cast-three c).Then-end-gt16 (at_byte (goal.at.overflow_cast-three c).Start))
-
-pub overflow_mul-three : goal.overflow_mul-three
-overflow_mul-three c = omega (arith, bytes_3 (goal.at.overflow_mul-three c).Then-end-gt16 (at_byte (goal.at.overflow_mul-three c).Start))
-
-pub overflow_cast-three-then-end-gt16 : goal.overflow_cast-three-then-end-gt16
-overflow_cast-three-then-end-gt16 c = omega (arith, bytes_3 (goal.at.overflow_cast-three-then-end-gt16 c).Then-end-gt16 (at_byte (goal.at.overflow_cast-three-then-end-gt16 c).Start + 1))
-
-pub overflow_mul-three-then-end-gt16 : goal.overflow_mul-three-then-end-gt16
-overflow_mul-three-then-end-gt16 c = omega (arith, bytes_3 (goal.at.overflow_mul-three-then-end-gt16 c).Then-end-gt16 (at_byte (goal.at.overflow_mul-three-then-end-gt16 c).Start + 1))
-
-pub overflow_add-three-then-end-gt16 : goal.overflow_add-three-then-end-gt16
-overflow_add-three-then-end-gt16 c =
-    let i = at_byte (goal.at.overflow_add-three-then-end-gt16 c).Start in
-    omega (arith, bytes_3 (goal.at.overflow_add-three-then-end-gt16 c).Then-end-gt16 i, bytes_3 (goal.at.overflow_add-three-then-end-gt16 c).Then-end-gt16 (i + 1))
-
-pub overflow_cast-three-then-end-gt16-2 : goal.overflow_cast-three-then-end-gt16-2
-overflow_cast-three-then-end-gt16-2 c = omega (arith, bytes_3 (goal.at.overflow_cast-three-then-end-gt16-2 c).Then-end-gt16 (at_byte (goal.at.overflow_cast-three-then-end-gt16-2 c).Start + 2))
-
-pub overflow_mul-three-then-end-gt16-2 : goal.overflow_mul-three-then-end-gt16-2
-overflow_mul-three-then-end-gt16-2 c = omega (arith, bytes_3 (goal.at.overflow_mul-three-then-end-gt16-2 c).Then-end-gt16 (at_byte (goal.at.overflow_mul-three-then-end-gt16-2 c).Start + 2))
-
-pub overflow_add-three-then-end-gt16-3 : goal.overflow_add-three-then-end-gt16-3
-overflow_add-three-then-end-gt16-3 c =
-    let i = at_byte (goal.at.overflow_add-three-then-end-gt16-3 c).Start in
-    omega (arith, bytes_3 (goal.at.overflow_add-three-then-end-gt16-3 c).Then-end-gt16 i, bytes_3 (goal.at.overflow_add-three-then-end-gt16-3 c).Then-end-gt16 (i + 1), bytes_3 (goal.at.overflow_add-three-then-end-gt16-3 c).Then-end-gt16 (i + 2))
-
-pub returns-then-end-gt16 : goal.returns-then-end-gt16
-returns-then-end-gt16 c =
-    let a = c.args in
-    let s = a.s.now in
-    let i = a.at / 8 in
-    let two = next_byte s (bytes_3 (goal.at.returns-then-end-gt16 c).Then-end-gt16) a.at 1 (get_or s i 0) (omega arith) (one_byte s (bytes_3 (goal.at.returns-then-end-gt16 c).Then-end-gt16) a.at (omega arith)) in
-    let three = next_byte s (bytes_3 (goal.at.returns-then-end-gt16 c).Then-end-gt16) a.at 2 (get_or s i 0 * 256 + get_or s (i + 1) 0) (omega arith) two in
-    cut s a.at a.w 24 (omega arith) (omega arith) (omega arith) (omega (arith, three))
-
-bytes_2 : (c : Then-end-gt8) → Bytes c.args.s.now
-bytes_2 c k = omega (arith, c.type_inv.s k)
-
-pub overflow_cast-two : goal.overflow_cast-two
-overflow_cast-two c = omega (arith, bytes_2 (goal.at.overflow_cast-two c).Then-end-gt8 (at_byte (goal.at.overflow_cast-two c).Start))
-
-pub overflow_mul-two : goal.overflow_mul-two
-overflow_mul-two c = omega (arith, bytes_2 (goal.at.overflow_mul-two c).Then-end-gt8 (at_byte (goal.at.overflow_mul-two c).Start))
-
-pub overflow_cast-two-then-end-gt8 : goal.overflow_cast-two-then-end-gt8
-overflow_cast-two-then-end-gt8 c = omega (arith, bytes_2 (goal.at.overflow_cast-two-then-end-gt8 c).Then-end-gt8 (at_byte (goal.at.overflow_cast-two-then-end-gt8 c).Start + 1))
-
-pub overflow_mul-two-then-end-gt8 : goal.overflow_mul-two-then-end-gt8
-overflow_mul-two-then-end-gt8 c = omega (arith, bytes_2 (goal.at.overflow_mul-two-then-end-gt8 c).Then-end-gt8 (at_byte (goal.at.overflow_mul-two-then-end-gt8 c).Start + 1))
-
-pub overflow_add-two-then-end-gt8 : goal.overflow_add-two-then-end-gt8
-overflow_add-two-then-end-gt8 c =
-    let i = at_byte (goal.at.overflow_add-two-then-end-gt8 c).Start in
-    omega (arith, bytes_2 (goal.at.overflow_add-two-then-end-gt8 c).Then-end-gt8 i, bytes_2 (goal.at.overflow_add-two-then-end-gt8 c).Then-end-gt8 (i + 1))
-
-pub returns-then-end-gt8 : goal.returns-then-end-gt8
-returns-then-end-gt8 c =
-    let a = c.args in
-    let s = a.s.now in
-    let two = next_byte s (bytes_2 (goal.at.returns-then-end-gt8 c).Then-end-gt8) a.at 1 (get_or s (a.at / 8) 0) (omega arith) (one_byte s (bytes_2 (goal.at.returns-then-end-gt8 c).Then-end-gt8) a.at (omega arith)) in
-    cut s a.at a.w 16 (omega arith) (omega arith) (omega arith) (omega (arith, two))
-
-bytes_1 : (c : Else-end-gt8) → Bytes c.args.s.now
-bytes_1 c k = omega (arith, c.type_inv.s k)
-
-pub overflow_cast-one : goal.overflow_cast-one
-overflow_cast-one c = omega (arith, bytes_1 (goal.at.overflow_cast-one c).Else-end-gt8 (at_byte (goal.at.overflow_cast-one c).Start))
-
-pub overflow_mul-one : goal.overflow_mul-one
-overflow_mul-one c = omega (arith, bytes_1 (goal.at.overflow_mul-one c).Else-end-gt8 (at_byte (goal.at.overflow_mul-one c).Start))
-
+-- three bytes, two, and one
 pub returns : goal.returns
 returns c =
     let a = c.args in
     let s = a.s.now in
-    cut s a.at a.w 8 (omega arith) (omega arith) (omega arith) (omega (arith, one_byte s (bytes_1 (goal.at.returns c).Else-end-gt8) a.at (omega arith)))
+    let i = a.at / 8 in
+    let bytes : Bytes s = λ k. omega (arith, c.type_inv.s k) in
+    let one : i < length s → get_or s i 0 ≡ field_at s (8 * i) 8 = one_byte s bytes a.at in
+    let two : i + 1 < length s → get_or s i 0 * 256 + get_or s (i + 1) 0 ≡ field_at s (8 * i) 16 =
+    λ h. next_byte s bytes a.at 1 (get_or s i 0) h (one (omega arith)) in
+    elim c.if-end-gt16.branch [
+      | then-end-gt16 w ↦
+          let three = next_byte s bytes a.at 2 (get_or s i 0 * 256 + get_or s (i + 1) 0) (omega arith) (two (omega arith)) in
+          cut s a.at a.w 24 (omega arith) (omega arith) (omega arith) (omega (arith, three, w.from_be_bytes-covering.ensures, w.covering-is))
+      | else-end-gt16+then-end-gt8 w ↦
+          cut s a.at a.w 16 (omega arith) (omega arith) (omega arith) (omega (arith, two (omega arith), w.from_be_bytes.ensures, w.covering-is))
+      | else-end-gt16+else-end-gt8 w ↦
+          cut s a.at a.w 8 (omega arith) (omega arith) (omega arith) (omega (arith, one (omega arith), w.from_be_bytes-else-end-gt8.ensures, w.covering-is))
+    ]

@@ -1,7 +1,6 @@
 -- `bits::store` meets its contract: the laws of no byte, of one and of two.
 use mathlib.Core.Path.{◌≡◌, sym, ap, ◌∙◌}
 use native.Mathlib.Omega.{arith}
-use lib.ListN.{length-set}
 use Rattle.bits.proofs.Stored.{stored, stored_none, stored_one, stored_two}
 use Rattle.bits.proofs.store.Goals as goal
 use Rattle.bits.proofs.store.Goals.{Else-n-eq1}
@@ -19,9 +18,6 @@ returns-then-n-eq1 c =
 -- neither none nor one
 two : (c : Else-n-eq1) → c.args.n ≡ 2
 two c = omega arith
-
-pub bounds-out-at-3 : goal.bounds-out-at-3
-bounds-out-at-3 c = simp length-set (omega (arith, two c))
 
 pub returns : goal.returns
 returns c =

@@ -1,13 +1,14 @@
--- `crc::crc_by` meets its contract: the far table passes the two tests of its rule.
-use Rattle.crc.specs.Crc.{bit_in, register, crc_of}
-use Rattle.crc.specs.Tables.{shifts}
-use Rattle.crc.proofs.Entries.{first_entry, later_entry, table_rule}
+-- `crc::crc_by` meets its contract.
+use native.Mathlib.Omega.{arith}
+use Rattle.crc.specs.Crc.{crc_of}
+use Rattle.crc.proofs.Slices.{left_whole, left_slice}
 use Rattle.crc.proofs.crc_by.Goals as goal
 
-pub returns-then-s-lt-MIDDLE : goal.returns-then-s-lt-MIDDLE
+pub loop-slice-init : goal.loop-slice-init
 unfolding crc_of
-returns-then-s-lt-MIDDLE c = c.eights_in.ensures
+loop-slice-init g c = left_whole _ _
 
-pub crc_by_both-requires : goal.crc_by_both-requires
-unfolding first_entry later_entry shifts register bit_in
-crc_by_both-requires c = (c.requires, table_rule 4 16 _ tt tt)
+pub loop-slice-preserved : goal.loop-slice-preserved
+loop-slice-preserved g c =
+    let e = c.as_chunks.ensures in
+    left_slice 16 c.loop-slice.slice-index c.loop-slice.invariant _ e.front (omega arith) (omega (arith, e.front_len)) c.sixteen_in-c.ensures

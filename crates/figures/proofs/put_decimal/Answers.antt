@@ -1,67 +1,58 @@
--- `figures::put_decimal` meets its contract. The loop keeps what is left to write: the figures left, and the byte after them.
-use Prim.Native.Nat.{ℕ, ◌+◌, ◌-◌, ◌/◌, ◌%◌, ◌≤◌, ◌<◌}
-use mathlib.Core.Path.{sym, ap, subst}
-use mathlib.Core.List.{[], ◌∷◌, ◌++◌}
-use borrow.Author.Rules.{rules}
+-- `figures::put_decimal` meets its contract. Where the loop ends, all figures stand there.
+use Prim.Native.Nat.{ℕ, ◌+◌, ◌-◌, ◌<◌}
+use mathlib.Core.Path.{◌≡◌, ap₂, ◌∙◌}
+use mathlib.Core.List.{[], ◌∷◌}
 use native.Mathlib.Omega.{arith}
-use lib.ListN.{length, length-append}
-use Rattle.runs.proofs.Digits.{power_pos}
-use Rattle.runs.proofs.Writing.{Writing, writing_as, writing_byte, writing_done}
-use Rattle.figures.specs.Figures.{decimal}
-use Rattle.figures.proofs.Figures.{figures, length_figures, figures_turn, figures_none, size_most}
-use Rattle.figures.proofs.Fields.{field_begins, field_put}
+use lib.ListN.{length}
+use Rattle.runs.specs.Over.{over}
+use Rattle.runs.proofs.Over.{wrote_byte, wrote_then}
+use Rattle.figures.specs.Figures.{decimal, size_from}
+use Rattle.figures.proofs.Figures.{figures, length_decimal, standing_none, standing_more}
+use Rattle.figures.proofs.Fields.{field_put}
 use Rattle.figures.proofs.put_decimal.Goals as goal
-use Rattle.figures.proofs.put_decimal.Goals.{After-loop-left, In-loop-left}
+use Rattle.figures.proofs.put_decimal.Goals.{After-decimal_size, After-loop-i}
 
--- there is room for the figure and the byte after all
-room : (c : In-loop-left) → let l = c.loop-left in l.next + 2 ≤ length l.out
-room c =
-    let a = c.args in
-    let l = c.loop-left in
-    omega (arith, l.invariant.1.room, length-append (figures l.left a.n) (a.end ∷ []), length_figures l.left a.n)
+-- there is room for the figures and the byte after them
+room : (c : After-decimal_size) → c.args.at + c.decimal_size.result < length c.args.out.now
+room c = omega (arith, c.requires, c.decimal_size.ensures, length_decimal c.args.n)
 
--- where the loop ends, the byte after the figures is left
-last : (c : After-loop-left)
-    → let a = c.args in
-    let l = c.loop-left in
-    Writing a.out.now a.at (decimal a.n ++ (a.end ∷ [])) l.out l.next (a.end ∷ [])
-last c =
-    let a = c.args in
-    let l = c.loop-left in
-    writing_as (figures_none l.left a.n (a.end ∷ []) (omega arith)) l.invariant.1
-
-pub loop-left-init : goal.loop-left-init
+-- all figures stand there
+stand : (c : After-loop-i) → c.loop-i.out ≡ over c.args.out.now c.args.at (decimal c.args.n)
 unfolding decimal
-loop-left-init c =
+stand c =
     let a = c.args in
-    let e = c.decimal_size-left.ensures in (
-      omega (arith, e, size_most a.n),
-      writing_as (ap (λ (k : ℕ). figures k a.n ++ (a.end ∷ [])) (sym e)) (field_begins a.out.now a.at (decimal a.n) a.end (search rules)),
-    )
-
-pub loop-left-preserved : goal.loop-left-preserved
-loop-left-preserved c =
-    let a = c.args in
-    let l = c.loop-left in
-    (omega arith, figures_turn l.left a.n _ (a.end ∷ []) (omega arith) (ap (λ (p : ℕ). 48 + a.n / p % 10) c.power.ensures) l.invariant.1)
-
-pub returns : goal.returns
-returns c = let a = c.args in field_put (decimal a.n) a.end (writing_done (writing_byte _ [] (last c)))
-
-pub nonzero_div-out : goal.nonzero_div-out
-nonzero_div-out c = subst (λ (m : ℕ). 0 < m) (sym c.power.ensures) (power_pos 10 (c.loop-left.left - 1) (omega arith))
-
-pub bounds-out-next : goal.bounds-out-next
-bounds-out-next c = omega (arith, room (goal.at.bounds-out-next c).In-loop-left)
+    let l = c.loop-i in
+    let k = a.at + c.decimal_size.result - l.i in
+    let e : l.i ≡ a.at = omega arith in
+    let f : k ≡ size_from 1 19 a.n = omega (arith, e, c.decimal_size.ensures) in
+    l.invariant.1.stands ∙ ap₂ (λ (i m : ℕ). over a.out.now i (figures m a.n)) e f
 
 pub overflow_add-next : goal.overflow_add-next
-overflow_add-next c = omega (arith, room (goal.at.overflow_add-next c).In-loop-left)
+overflow_add-next c = omega (arith, room (goal.at.overflow_add-next c).After-decimal_size)
 
-pub bounds-out-next-2 : goal.bounds-out-next-2
-bounds-out-next-2 c = omega (arith, (last c).room)
+pub loop-i-init : goal.loop-i-init
+loop-i-init c = (omega arith, standing_none c.args.out.now _ c.args.n)
+
+pub bounds-out-i : goal.bounds-out-i
+bounds-out-i c = omega (arith, room (goal.at.bounds-out-i c).After-decimal_size)
+
+pub loop-i-preserved : goal.loop-i-preserved
+loop-i-preserved c =
+    let l = c.loop-i in
+    (omega arith, standing_more (omega arith) (omega arith) (omega (arith, room (goal.at.loop-i-preserved c).After-decimal_size)) l.invariant.1)
+
+pub bounds-out-next : goal.bounds-out-next
+bounds-out-next c = omega (arith, room (goal.at.bounds-out-next c).After-decimal_size)
 
 pub overflow_add-result : goal.overflow_add-result
-overflow_add-result c = omega (arith, (last c).room)
+overflow_add-result c = omega (arith, room (goal.at.overflow_add-result c).After-decimal_size)
 
-pub shape_of-out : goal.shape_of-out
-shape_of-out c = (writing_byte _ [] (last c)).same
+pub returns : goal.returns
+returns c =
+    let a = c.args in
+    let h = room (goal.at.returns c).After-decimal_size in
+    let size = c.decimal_size.ensures in
+    field_put (decimal a.n) a.end
+    (wrote_then (decimal a.n) (a.end ∷ []) (omega (arith, h, size, length_decimal a.n))
+    (record { next = omega (arith, size, length_decimal a.n); buffer = stand (goal.at.returns c).After-loop-i })
+    (wrote_byte c.loop-i.out (a.at + c.decimal_size.result) a.end (omega arith)))

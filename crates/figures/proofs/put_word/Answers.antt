@@ -17,6 +17,3 @@ returns c =
     let a = c.args in
     let k = c.copy-next in
     field_put a.word.now a.end (wrote_then a.word.now (a.end ∷ []) (omega arith) k.ensures (wrote_byte k.new.out k.result a.end (room (goal.at.returns c).After-copy-next)))
-
-pub bounds-out-next : goal.bounds-out-next
-bounds-out-next c = room (goal.at.bounds-out-next c).After-copy-next

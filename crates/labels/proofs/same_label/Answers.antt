@@ -4,9 +4,9 @@ use Rattle.labels.proofs.same_label.Goals as goal
 
 pub returns-then-word : goal.returns-then-word
 returns-then-word c =
-    labels_differ c.args.s.now c.args.t.now c.args.a c.args.b _ _ c.requires c.word.ensures c.word-2.ensures c.if-word.true
-
-pub returns : goal.returns
-returns c =
     labels_told c.args.s.now c.args.t.now c.args.a c.args.b _ _ c.requires c.word.ensures c.word-2.ensures _ _
-    (λ i. (c.type_inv.s i).fits) (λ i. (c.type_inv.t i).fits) c.if-word.false c.word-3.ensures c.word-4.ensures
+    (λ i. (c.type_inv.s i).fits) (λ i. (c.type_inv.t i).fits) c.if-word.true c.word-then-word.ensures c.word-then-word-2.ensures
+
+pub returns-else-word : goal.returns-else-word
+returns-else-word c =
+    labels_differ c.args.s.now c.args.t.now c.args.a c.args.b _ _ c.requires c.word.ensures c.word-2.ensures c.if-word.false

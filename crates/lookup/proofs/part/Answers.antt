@@ -1,15 +1,19 @@
--- `lookup::part` meets its contract: by the answer and its mark.
-use Rattle.lookup.proofs.Parts.{part_refused, part_main, part_backup, part_neither}
+-- `lookup::part` meets its contract: by what was found, and in which pack.
+use mathlib.Core.Path.{sym, ap, ◌∙◌}
+use Rattle.pack.specs.Meaning.{stretch_in}
+use Rattle.lookup.specs.Lookup.{pack_of, part_of}
+use Rattle.lookup.specs.declared.Mark.{Mark}
 use Rattle.lookup.proofs.part.Goals as goal
+use Rattle.lookup.proofs.part.Goals.{In-Ok}
+
+pub returns-in_default : goal.returns-in_default
+unfolding part_of
+returns-in_default c = sym (ap (part_of c.args.main.now c.args.backup.now) c.in_default.is)
 
 pub returns-in-Main : goal.returns-in-Main
-returns-in-Main c = part_main _ _ c.in-At.is c.in-Main.is c.stretch.ensures
+unfolding part_of
+returns-in-Main c = c.stretch.ensures ∙ sym (ap (λ (m : Mark). stretch_in (pack_of m c.args.main.now c.args.backup.now) c.in-Ok.found.value.start c.in-Ok.found.value.len) c.in-Main.is) ∙ sym (ap (part_of c.args.main.now c.args.backup.now) c.in-Ok.is)
 
 pub returns-in-Backup : goal.returns-in-Backup
-returns-in-Backup c = part_backup _ _ c.in-At.is c.in-Backup.is c.stretch-in-Backup.ensures
-
-pub returns-in-Neither : goal.returns-in-Neither
-returns-in-Neither c = part_neither _ _ c.in-At.is c.in-Neither.is
-
-pub returns-in-Refused : goal.returns-in-Refused
-returns-in-Refused c = part_refused _ _ c.in-Refused.is
+unfolding part_of
+returns-in-Backup c = c.stretch-in-Backup.ensures ∙ sym (ap (λ (m : Mark). stretch_in (pack_of m c.args.main.now c.args.backup.now) c.in-Ok.found.value.start c.in-Ok.found.value.len) c.in-Backup.is) ∙ sym (ap (part_of c.args.main.now c.args.backup.now) c.in-Ok.is)

@@ -1,135 +1,147 @@
 -- `lookup::seek_items` meets its contract. The loop keeps what is left and what was found, for any tags.
 use mathlib.Core.Path.{◌≡◌, refl, sym, ap, ◌∙◌}
-use Prim.Native.Nat.{ℕ, ◌≤◌}
+use mathlib.Core.List.{List}
+use mathlib.Core.Bool.{Bool}
+use Prim.Native.Nat.{ℕ, ◌+◌, ◌-◌}
+use native.Mathlib.Nat.{zero-add}
 use native.Mathlib.Omega.{arith}
-use lib.ListN.{length}
+use lib.ListN.{length, take, drop}
+use Rattle.std.specs.Prelude.{Ok, Err}
+use Rattle.std.specs.Option.{option_or}
+use Rattle.std.proofs.lemmas.Result.{err_from_is_err_and}
+use Rattle.refusals.proofs.Lent.{answers, counts}
 use Rattle.numbers.specs.Big.{extended, sum32}
-use Rattle.pack.specs.Items.{item_at, sync_total}
-use Rattle.pack.specs.declared.Step.TheVariants as S
-use Rattle.pack.proofs.Payloads.{Fits, plain_fits, open_fits, close_ends}
+use Rattle.pack.specs.Payloads.{ground_of}
+use Rattle.pack.specs.Items.{item_at, plain, opens, closes, sync_ground}
+use Rattle.pack.specs.declared.Name.{Name}
+use Rattle.pack.proofs.Payloads.{plain_fits, open_fits, close_ends}
 use Rattle.pack.proofs.Coming.{coming_ends, coming_bad, coming_good, coming_crc, sync_refused, sync_none, inside_long, inside_part}
-use Rattle.lookup.proofs.Steps.{spot_none, body_refused, body_fine}
-use Rattle.lookup.proofs.Seeking.{on_sum, items_begin, plain_on, open_on}
+use Rattle.lookup.specs.Sought.{of_tag, Tells, InsideSought, sought_body}
+use Rattle.lookup.proofs.Seeking.{on_sum, items_begin, plain_on, open_on, counted, inside_told}
 use Rattle.lookup.proofs.seek_items.Goals as goal
-use Rattle.lookup.proofs.seek_items.Goals.{After-seek_inside-inside, In-Close, In-Open, In-Plain}
+use Rattle.lookup.proofs.seek_items.Goals.{After-seek_inside, In-Ok-Close, In-Ok-Open, In-Ok-Plain}
 
 -- in each arm, what stands there
-closes : (c : In-Close)
-    → item_at c.args.s.now c.loop-at.at c.loop-at.n ≡ S.Close c.in-Close.value_start
-closes c = sym c.item_at-step.ensures ∙ c.in-Close.is
+payload : (c : In-Ok-Plain)
+    → let x = c.in-Ok-Plain.element in item_at c.args.s.now c.loop-at.at c.loop-at.n ≡ plain x.tag x.value.start x.value.len
+payload c = sym c.item_at.ensures ∙ c.in-Ok-Plain.is ∙ ap Ok c.in-Ok-Plain.field-0-is
 
-plain : (c : In-Plain)
-    → item_at c.args.s.now c.loop-at.at c.loop-at.n ≡ S.Plain c.in-Plain.tag c.in-Plain.value_start c.in-Plain.value_len
-plain c = sym c.item_at-step.ensures ∙ c.in-Plain.is
+crc : (c : In-Ok-Close) → item_at c.args.s.now c.loop-at.at c.loop-at.n ≡ closes c.in-Ok-Close.value
+crc c = sym c.item_at.ensures ∙ c.in-Ok-Close.is ∙ ap Ok c.in-Ok-Close.field-0-is
 
-fits : (c : In-Plain)
-    → Fits c.args.s.now c.loop-at.at c.loop-at.n c.in-Plain.value_start c.in-Plain.value_len
-fits c = plain_fits _ _ _ _ _ _ (plain c)
+sync : (c : In-Ok-Open)
+    → let v = c.in-Ok-Open.value in item_at c.args.s.now c.loop-at.at c.loop-at.n ≡ opens v.start v.len
+sync c = sym c.item_at.ensures ∙ c.in-Ok-Open.is ∙ ap Ok c.in-Ok-Open.field-0-is
 
-opens : (c : In-Open)
-    → item_at c.args.s.now c.loop-at.at c.loop-at.n ≡ S.Open c.in-Open.value_start c.in-Open.value_len
-opens c = sym c.item_at-step.ensures ∙ c.in-Open.is
+-- the inside of a Sync, by the total offset that it has there
+inside : (c : After-seek_inside) (tags : List ℕ) (test : Name → Bool) → Tells tags test c.args.wanted
+    → let s = c.args.s.now in
+    let v = c.in-Ok-Open.value in
+    InsideSought (take (v.start + v.len - (v.start + 4)) (drop (v.start + 4) s)) (sync_ground s (ground_of tags c.args.total) v.start) test (v.start + 4) (c.loop-at.n + 1) c.seek_inside.result
+inside c tags test tells =
+    let sum = c.sum32-inner.ensures ∙ ap (λ (n : ℕ). sum32 c.args.total (extended n)) c.be16-own.ensures in
+    on_sum sum (c.seek_inside.ensures tags test tells)
 
-room : (c : In-Open)
-    → Fits c.args.s.now c.loop-at.at c.loop-at.n c.in-Open.value_start c.in-Open.value_len × (4 ≤ c.in-Open.value_len)
-room c = open_fits _ _ _ _ _ (opens c)
+pub loop-at-init : goal.loop-at-init
+loop-at-init c = λ tags test tells. items_begin _ _ test _ refl
 
--- the total offset inside a Sync
-own_sum : (i : After-seek_inside-inside)
-    → i.sum32-inner.result ≡ sync_total i.args.s.now i.args.total i.in-Open.value_start
-own_sum i =
-    i.sum32-inner.ensures ∙ ap (λ (n : ℕ). sum32 i.args.total (extended n)) i.be16-own.ensures
+pub returns-in-Err : goal.returns-in-Err
+returns-in-Err c =
+    λ tags test tells. answers (sought_body test) (coming_bad (c.loop-at.invariant tags test tells).coming c.loop-at-test.true (sym c.item_at.ensures ∙ c.in-Err.is)) (ap Err c.at.ensures)
 
-pub returns-in-Bad : goal.returns-in-Bad
-returns-in-Bad c =
-    λ tags test tells. body_refused test (coming_bad (c.loop-at.invariant tags test tells).coming c.loop-at-test.true (sym c.item_at-step.ensures ∙ c.in-Bad.is))
+pub crc_good-requires : goal.crc_good-requires
+crc_good-requires c = omega (arith, close_ends _ _ _ _ (crc c))
 
 pub returns-then-crc_good : goal.returns-then-crc_good
 returns-then-crc_good c =
     λ tags test tells.
     let g = c.loop-at.invariant tags test tells in
-    body_fine test (coming_good g.coming c.loop-at-test.true (closes (goal.at.returns-then-crc_good c).In-Close) (sym c.crc_good.ensures ∙ c.if-crc_good.true)) (c.sought_of.ensures ∙ g.found)
+    counts (sought_body test) (coming_good g.coming c.loop-at-test.true (crc (goal.at.returns-then-crc_good c).In-Ok-Close) (sym c.crc_good.ensures ∙ c.if-crc_good.true)) (ap Ok g.found)
 
-pub returns-in-Close : goal.returns-in-Close
-returns-in-Close c =
+pub returns-in-Ok-Close : goal.returns-in-Ok-Close
+returns-in-Ok-Close c =
     λ tags test tells.
-    body_refused test (coming_crc (c.loop-at.invariant tags test tells).coming c.loop-at-test.true (closes (goal.at.returns-in-Close c).In-Close) (sym c.crc_good.ensures ∙ c.if-crc_good.false))
+    answers (sought_body test)
+    (coming_crc (c.loop-at.invariant tags test tells).coming c.loop-at-test.true (crc (goal.at.returns-in-Ok-Close c).In-Ok-Close) (sym c.crc_good.ensures ∙ c.if-crc_good.false))
+    (ap Err c.at-in-Ok-Close.ensures)
 
-pub or_payload-first-requires : goal.or_payload-first-requires
-or_payload-first-requires c = (omega (arith, (fits c).later), omega (arith, (fits c).inside, c.requires))
+pub spot_of-requires : goal.spot_of-requires
+spot_of-requires c = omega (arith, (plain_fits _ _ _ _ _ _ (payload c)).inside, c.requires)
+
+pub overflow_add-n : goal.overflow_add-n
+overflow_add-n c = omega (arith, (plain_fits _ _ _ _ _ _ (payload (goal.at.overflow_add-n c).In-Ok-Plain)).room)
 
 pub overflow_add-at : goal.overflow_add-at
-overflow_add-at c = omega (arith, (fits (goal.at.overflow_add-at c).In-Plain).inside, c.requires)
+overflow_add-at c = omega (arith, (plain_fits _ _ _ _ _ _ (payload (goal.at.overflow_add-at c).In-Ok-Plain)).inside, c.requires)
 
-pub loop-at-smaller-in-Plain : goal.loop-at-smaller-in-Plain
-loop-at-smaller-in-Plain c = omega (arith, (fits (goal.at.loop-at-smaller-in-Plain c).In-Plain).later, (fits (goal.at.loop-at-smaller-in-Plain c).In-Plain).inside, c.loop-at-test.true)
+pub loop-at-smaller-in-Ok-Plain : goal.loop-at-smaller-in-Ok-Plain
+loop-at-smaller-in-Ok-Plain c = let f = plain_fits _ _ _ _ _ _ (payload (goal.at.loop-at-smaller-in-Ok-Plain c).In-Ok-Plain) in omega (arith, f.later, f.inside, c.loop-at-test.true)
 
-pub loop-at-preserved-in-Plain : goal.loop-at-preserved-in-Plain
-loop-at-preserved-in-Plain c =
-    λ tags test tells. plain_on (c.loop-at.invariant tags test tells) c.loop-at-test.true _ tells (plain (goal.at.loop-at-preserved-in-Plain c).In-Plain) c.or_payload-first.ensures
+pub loop-at-preserved-in-Ok-Plain : goal.loop-at-preserved-in-Ok-Plain
+loop-at-preserved-in-Ok-Plain c =
+    let x = c.in-Ok-Plain.element in
+    λ tags test tells.
+    plain_on (c.loop-at.invariant tags test tells) c.loop-at-test.true _ tells (payload (goal.at.loop-at-preserved-in-Ok-Plain c).In-Ok-Plain)
+    (c.or-first.ensures ∙ ap (option_or c.loop-at.first) (c.spot_of.ensures ∙ ap (λ (v : ℕ). of_tag c.args.wanted x.tag v x.value.len c.args.total) (zero-add x.value.start)))
 
 pub overflow_add-base : goal.overflow_add-base
-overflow_add-base c = omega (arith, (room c).0.inside, (room c).1, c.requires)
+overflow_add-base c = let f = open_fits _ _ _ _ _ (sync (goal.at.overflow_add-base c).In-Ok-Open) in omega (arith, f.0.inside, f.1, c.requires)
 
 pub overflow_add-end : goal.overflow_add-end
-overflow_add-end c = omega (arith, (room c).0.inside, c.requires)
+overflow_add-end c = let f = open_fits _ _ _ _ _ (sync (goal.at.overflow_add-end c).In-Ok-Open) in omega (arith, f.0.inside, f.1, c.requires)
 
-pub seek_inside-inside-requires : goal.seek_inside-inside-requires
-seek_inside-inside-requires c =
+pub overflow_add-used : goal.overflow_add-used
+overflow_add-used c = omega (arith, (open_fits _ _ _ _ _ (sync (goal.at.overflow_add-used c).In-Ok-Open)).0.room)
+
+pub be16-own-requires : goal.be16-own-requires
+be16-own-requires c = let f = open_fits _ _ _ _ _ (sync (goal.at.be16-own-requires c).In-Ok-Open) in omega (arith, f.0.inside, f.1)
+
+pub slice_bounds-seek_inside-count : goal.slice_bounds-seek_inside-count
+slice_bounds-seek_inside-count c = let f = open_fits _ _ _ _ _ (sync (goal.at.slice_bounds-seek_inside-count c).In-Ok-Open) in omega (arith, f.1)
+
+pub slice_bounds-seek_inside-start : goal.slice_bounds-seek_inside-start
+slice_bounds-seek_inside-start c = let f = open_fits _ _ _ _ _ (sync (goal.at.slice_bounds-seek_inside-start c).In-Ok-Open) in omega (arith, f.1)
+
+pub slice_bounds-seek_inside-end : goal.slice_bounds-seek_inside-end
+slice_bounds-seek_inside-end c = let f = open_fits _ _ _ _ _ (sync (goal.at.slice_bounds-seek_inside-end c).In-Ok-Open) in omega (arith, f.0.inside)
+
+pub seek_inside-requires : goal.seek_inside-requires
+seek_inside-requires c =
+    let f = open_fits _ _ _ _ _ (sync (goal.at.seek_inside-requires c).In-Ok-Open) in
     let s = c.args.s.now in
-    let v = c.in-Open.value_start in
-    let l = c.in-Open.value_len in
-    let long = ap length (inside_part s v l) in
-    (omega (arith, (room (goal.at.seek_inside-inside-requires c).In-Open).0.room), omega (arith, long, inside_long s v l (room (goal.at.seek_inside-inside-requires c).In-Open).0.inside (room (goal.at.seek_inside-inside-requires c).In-Open).1, (room (goal.at.seek_inside-inside-requires c).In-Open).0.inside, (room (goal.at.seek_inside-inside-requires c).In-Open).1, c.requires))
+    let v = c.in-Ok-Open.value in
+    let l = ap length (inside_part s v.start v.len) in
+    (omega (arith, f.0.room), omega (arith, l, inside_long s v.start v.len f.0.inside f.1, f.0.inside, c.requires))
 
-pub returns-in-Refused : goal.returns-in-Refused
-returns-in-Refused c =
+pub returns-in_err-inside-in-Ok-Open : goal.returns-in_err-inside-in-Ok-Open
+returns-in_err-inside-in-Ok-Open c =
+    let p = err_from_is_err_and c.from_residual.result c.from_residual.ensures.1 in
     λ tags test tells.
-    body_refused test (sync_refused (c.loop-at.invariant tags test tells).coming c.loop-at-test.true (opens (goal.at.returns-in-Refused c).In-Open) (on_sum (own_sum (goal.at.returns-in-Refused c).After-seek_inside-inside) (c.seek_inside-inside.ensures tags test tells)).told c.in-Refused.is)
+    rw (p.1, p.2)
+    (answers (sought_body test)
+    (sync_refused (c.loop-at.invariant tags test tells).coming c.loop-at-test.true (sync (goal.at.returns-in_err-inside-in-Ok-Open c).In-Ok-Open)
+    (inside_told (inside (goal.at.returns-in_err-inside-in-Ok-Open c).After-seek_inside tags test tells)) (ap counted c.in_err-inside-in-Ok-Open.was))
+    refl)
 
-pub returns-then-k-used : goal.returns-then-k-used
-returns-then-k-used c =
+pub returns-then-inside-used : goal.returns-then-inside-used
+returns-then-inside-used c =
     λ tags test tells.
-    body_refused test
-    (sync_none (c.loop-at.invariant tags test tells).coming c.loop-at-test.true (opens (goal.at.returns-then-k-used c).In-Open) (on_sum (own_sum (goal.at.returns-then-k-used c).After-seek_inside-inside) (c.seek_inside-inside.ensures tags test tells)).told c.in-Done.is
-    c.if-k-used.true)
+    answers (sought_body test)
+    (sync_none (c.loop-at.invariant tags test tells).coming c.loop-at-test.true (sync (goal.at.returns-then-inside-used c).In-Ok-Open)
+    (inside_told (inside (goal.at.returns-then-inside-used c).After-seek_inside tags test tells)) (ap counted c.in_ok-inside-in-Ok-Open.was) c.if-inside-used.true)
+    (ap Err c.at-then-inside-used.ensures)
 
 pub loop-at-smaller : goal.loop-at-smaller
-loop-at-smaller c =
-    omega (arith, (room (goal.at.loop-at-smaller c).In-Open).0.later, (room (goal.at.loop-at-smaller c).In-Open).0.inside, c.loop-at-test.true)
+loop-at-smaller c = let f = open_fits _ _ _ _ _ (sync (goal.at.loop-at-smaller c).In-Ok-Open) in omega (arith, f.0.later, f.0.inside, c.loop-at-test.true)
 
 pub loop-at-preserved : goal.loop-at-preserved
 loop-at-preserved c =
     λ tags test tells.
-    open_on (c.loop-at.invariant tags test tells) c.loop-at-test.true (opens (goal.at.loop-at-preserved c).In-Open) (on_sum (own_sum (goal.at.loop-at-preserved c).After-seek_inside-inside) (c.seek_inside-inside.ensures tags test tells)) c.in-Done.is
-    c.if-k-used.false c.or_else-first.ensures
+    open_on (c.loop-at.invariant tags test tells) c.loop-at-test.true (sync (goal.at.loop-at-preserved c).In-Ok-Open)
+    (inside (goal.at.loop-at-preserved c).After-seek_inside tags test tells) c.in_ok-inside-in-Ok-Open.was c.if-inside-used.false c.or-first-in-Ok-Open.ensures
 
 pub returns : goal.returns
 returns c =
     λ tags test tells.
     let g = c.loop-at.invariant tags test tells in
-    body_fine test (coming_ends g.coming c.loop-at-test.false) (c.sought_of-2.ensures ∙ g.found)
-
-pub loop-at-init : goal.loop-at-init
-loop-at-init c = λ tags test tells. items_begin _ _ test _ (spot_none _ refl)
-
-pub crc_good-requires : goal.crc_good-requires
-crc_good-requires c = omega (arith, close_ends _ _ _ _ (closes c))
-
-pub overflow_add-n : goal.overflow_add-n
-overflow_add-n c = omega (arith, (fits (goal.at.overflow_add-n c).In-Plain).room)
-
-pub overflow_add-used : goal.overflow_add-used
-overflow_add-used c = omega (arith, (room c).0.room)
-
-pub be16-own-requires : goal.be16-own-requires
-be16-own-requires c = omega (arith, (room c).0.inside, (room c).1)
-
-pub slice_bounds-seek_inside-count : goal.slice_bounds-seek_inside-count
-slice_bounds-seek_inside-count c = omega (arith, (room (goal.at.slice_bounds-seek_inside-count c).In-Open).1)
-
-pub slice_bounds-seek_inside-start : goal.slice_bounds-seek_inside-start
-slice_bounds-seek_inside-start c = omega (arith, (room (goal.at.slice_bounds-seek_inside-start c).In-Open).1)
-
-pub slice_bounds-seek_inside-end : goal.slice_bounds-seek_inside-end
-slice_bounds-seek_inside-end c = omega (arith, (room (goal.at.slice_bounds-seek_inside-end c).In-Open).0.inside)
+    counts (sought_body test) (coming_ends g.coming c.loop-at-test.false) (ap Ok g.found)

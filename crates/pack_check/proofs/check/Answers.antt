@@ -1,6 +1,7 @@
 -- `pack_check::check` meets its contract: the pack's start or its opening is refused, or the items are counted.
-use Prim.Native.Nat.{ℕ}
 use mathlib.Core.Path.{◌≡◌, sym, ◌∙◌}
+use Prim.Native.Nat.{ℕ}
+use Rattle.std.proofs.lemmas.Result.{err_from_is_err_and}
 use Rattle.refusals.specs.Outcomes.{fine}
 use Rattle.refusals.proofs.Lent.{refused_was}
 use Rattle.refusals.proofs.Outcomes.{then_fine, then_refused, number_of, refused_of, done_of_lem}
@@ -9,26 +10,30 @@ use Rattle.pack.proofs.Turns.{start_small}
 use Rattle.pack_check.specs.Counts.{next_of}
 use Rattle.pack_check.proofs.Checked.{checked_stops, checked_next}
 use Rattle.pack_check.proofs.check.Goals as goal
-use Rattle.pack_check.proofs.check.Goals.{In-Done}
+use Rattle.pack_check.proofs.check.Goals.{In_ok-at}
 
 -- past the pack's start, where its value starts
-started : (c : In-Done) → value_start c.args.pack.now ≡ fine c.in-Done.at
-started c = number_of _ (sym c.in-Done.is ∙ c.value_start-start.ensures)
+started : (c : In_ok-at) → value_start c.args.pack.now ≡ fine c.in_ok-at.at
+started c = number_of _ (sym c.in_ok-at.was ∙ c.value_start.ensures)
 
-pub returns-in-Refused : goal.returns-in-Refused
-returns-in-Refused c = checked_stops _ (then_refused _ (refused_was (λ (n : ℕ). n) c.value_start-start.ensures c.in-Refused.is))
+pub returns-in_err-at : goal.returns-in_err-at
+returns-in_err-at c =
+    let p = err_from_is_err_and c.from_residual.result c.from_residual.ensures.1 in
+    rw (p.1, p.2) (checked_stops _ (then_refused _ (refused_was (λ (n : ℕ). n) c.value_start.ensures c.in_err-at.was)))
 
-pub returns-in-Refused-items : goal.returns-in-Refused-items
-returns-in-Refused-items c =
-    checked_stops _ (then_fine (opening_at _) (started (goal.at.returns-in-Refused-items c).In-Done) ∙ refused_of next_of _ (sym c.in-Refused-items.is ∙ c.items_start-items.ensures))
+pub items_start-requires : goal.items_start-requires
+items_start-requires c = start_small _ _ (started c)
 
-pub returns-in-Done-items : goal.returns-in-Done-items
-returns-in-Done-items c =
-    let o = done_of_lem next_of _ (sym c.in-Done-items.is ∙ c.items_start-items.ensures) in
-    checked_next _ (then_fine (opening_at _) (started (goal.at.returns-in-Done-items c).In-Done) ∙ o.1) o.2 c.count_items.ensures
-
-pub items_start-items-requires : goal.items_start-items-requires
-items_start-items-requires c = start_small _ _ (started c)
+pub returns-in_err-from : goal.returns-in_err-from
+returns-in_err-from c =
+    let p = err_from_is_err_and c.from_residual-in_err-from.result c.from_residual-in_err-from.ensures.1 in
+    rw (p.1, p.2)
+    (checked_stops _ (then_fine (opening_at _) (started (goal.at.returns-in_err-from c).In_ok-at) ∙ refused_of next_of _ (sym c.in_err-from.was ∙ c.items_start.ensures)))
 
 pub count_items-requires : goal.count_items-requires
-count_items-requires c = start_small _ _ (started (goal.at.count_items-requires c).In-Done)
+count_items-requires c = start_small _ _ (started (goal.at.count_items-requires c).In_ok-at)
+
+pub returns : goal.returns
+returns c =
+    let o = done_of_lem next_of _ (sym c.in_ok-from.was ∙ c.items_start.ensures) in
+    checked_next _ (then_fine (opening_at _) (started (goal.at.returns c).In_ok-at) ∙ o.1) o.2 c.count_items.ensures

@@ -1,31 +1,29 @@
--- `pack_config::config` meets its contract: a Config that is too short, or its mappings, whose tables are emptied where they are refused.
-use mathlib.Core.Path.{refl}
+-- `pack_config::config` meets its contract: a Config that is too short, or its mappings, of which there are none where they are refused.
+use Rattle.std.specs.Prelude.{Err}
 use Prim.Native.Nat.{◌+◌, ◌-◌}
+use mathlib.Core.Path.{sym, ap, ◌∙◌}
 use native.Mathlib.Omega.{arith}
-use lib.ListN.{length, length-take}
-use Rattle.refusals.proofs.Lent.{refused_was}
+use lib.ListN.{length-take}
 use Rattle.pack.specs.Config.{config_maps}
 use Rattle.pack_config.specs.Tables.{MapsWalked}
-use Rattle.pack_config.proofs.Tables.{read_refused, read_walked}
+use Rattle.pack_config.proofs.Tables.{read_refused, read_failed, read_held}
 use Rattle.pack_config.proofs.Openings.{maps_short, maps_long}
 use Rattle.pack_config.proofs.config.Goals as goal
-use Rattle.pack_config.proofs.config.Goals.{After-mappings-maps}
-
-pub returns-then-value_len-lt2 : goal.returns-then-value_len-lt2
-returns-then-value_len-lt2 c = read_refused (maps_short _ _ _ _ c.if-value_len-lt2.true) c.refuse.ensures c.requires.2
+use Rattle.pack_config.proofs.config.Goals.{After-read_mappings-read}
 
 -- what the walk over the mappings gives
-walked : (m : After-mappings-maps)
+walked : (m : After-read_mappings-read)
     → let a = m.args in
-    let t = m.mappings-maps.new in
-    MapsWalked (config_maps a.s.now a.at a.value_start a.value_len) m.mappings-maps.result t.tags t.places t.known
+    MapsWalked (config_maps a.s.now a.at a.value.start a.value.len) m.read_mappings-read.result m.read_mappings-read.new.maps
 walked m =
     let a = m.args in
-    maps_long a.s.now a.at a.value_start a.value_len (a.value_start + a.value_len - 0) m.if-value_len-lt2.false (omega arith) (m.mappings-maps.ensures a.value_len (simp length-take (omega arith)))
+    maps_long a.s.now a.at a.value.start a.value.len (a.value.start + a.value.len - 0) m.if-value-lt2.false (omega arith) (m.read_mappings-read.ensures a.value.len (simp length-take (omega arith)))
 
-pub returns-in-Refused : goal.returns-in-Refused
-returns-in-Refused c =
-    read_refused (refused_was length (walked (goal.at.returns-in-Refused c).After-mappings-maps).count c.in-Refused.is) refl c.clear.ensures
+pub returns-then-value-lt2 : goal.returns-then-value-lt2
+returns-then-value-lt2 c = read_refused (maps_short _ _ _ _ c.if-value-lt2.true) (ap Err c.at.ensures) c.requires.2
 
-pub returns-in-Done : goal.returns-in-Done
-returns-in-Done c = read_walked (walked (goal.at.returns-in-Done c).After-mappings-maps) c.in-Done.is
+pub returns-then-is_err : goal.returns-then-is_err
+returns-then-is_err c = read_failed _ (walked (goal.at.returns-then-is_err c).After-read_mappings-read) (sym c.is_err.ensures.value ∙ c.if-is_err.true) c.none.ensures
+
+pub returns-else-is_err : goal.returns-else-is_err
+returns-else-is_err c = read_held _ (walked (goal.at.returns-else-is_err c).After-read_mappings-read) (sym c.is_err.ensures.value ∙ c.if-is_err.false)

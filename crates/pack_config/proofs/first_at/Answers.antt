@@ -9,8 +9,8 @@ returns-then-s-at c = first_past _ _ c.if-s-at.true
 pub returns-then-s-at-ne1 : goal.returns-then-s-at-ne1
 returns-then-s-at-ne1 c = first_other _ _ (λ i. (c.type_inv.s i).fits) c.if-s-at-ne1.true
 
-pub returns-in-Wrong : goal.returns-in-Wrong
-returns-in-Wrong c = first_wrong _ _ _ (sym c.payload_at-found.ensures ∙ c.in-Wrong.is)
+pub returns-in_default : goal.returns-in_default
+returns-in_default c = first_wrong _ _ _ (sym c.payload_at.ensures ∙ c.in_default.is)
 
-pub returns-in-Whole : goal.returns-in-Whole
-returns-in-Whole c = first_config _ _ _ _ _ c.if-s-at.false c.if-s-at-ne1.false (sym c.payload_at-found.ensures ∙ c.in-Whole.is)
+pub returns : goal.returns
+returns c = first_config _ _ _ _ _ c.if-s-at.false c.if-s-at-ne1.false (sym c.payload_at.ensures ∙ c.in-Ok.is)

@@ -47,9 +47,6 @@ pub returns-then-left-size : goal.returns-then-left-size
 unfolding glance_after
 returns-then-left-size c = simp (lt-ltb _ _ c.if-left-size.true) at (told (goal.at.returns-then-left-size c).Joined-form-gt127)
 
-pub overflow_add-result : goal.overflow_add-result
-overflow_add-result c = let f = few (goal.at.overflow_add-result c).Joined-form-gt127 in omega arith
-
 pub returns : goal.returns
 unfolding glance_after
 returns c = simp (le-ltb _ _ c.if-left-size.false) at (told (goal.at.returns c).Joined-form-gt127)

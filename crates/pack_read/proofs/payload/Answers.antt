@@ -1,5 +1,5 @@
--- `pack_read::payload` meets its contract: by the name that the tables tell.
+-- `pack_read::payload` meets its contract: by the name that the mappings tell.
 use Rattle.pack_read.proofs.payload.Goals as goal
 
 pub returns : goal.returns
-returns c = rw c.name_by-name.ensures
+returns c = rw c.name.ensures

@@ -1,11 +1,16 @@
 -- `pack_read::read` meets its contract: the outline and what the arrays hold are the reading.
 use mathlib.Core.Path.{ap, ◌∙◌}
-use mathlib.Core.List.{List}
-use Rattle.pack.specs.declared.Slot.{Slot}
+use Rattle.std.specs.Prelude.{Err}
+use Rattle.std.proofs.lemmas.Result.{err_from_is_err_and}
+use Rattle.refusals.proofs.Lent.{answers}
+use Rattle.pack.specs.Slots.{shown}
+use Rattle.pack_read.proofs.Outlines.{outlined_none, outlined_shown}
 use Rattle.pack_read.proofs.read.Goals as goal
 
+pub returns-in_err-found : goal.returns-in_err-found
+returns-in_err-found c =
+    let p = err_from_is_err_and c.from_residual.result c.from_residual.ensures.1 in
+    answers shown (outlined_none c.read_into.ensures c.in_err-found.was) (p.1 ∙ ap Err p.2)
+
 pub returns : goal.returns
-returns c =
-    let f = c.read_into-found in
-    ap (λ (l : List Slot). record { answer = f.result.answer; offset = f.result.offset; crc = f.result.crc; mapped = f.result.mapped; tags = f.new.tags; labels = f.new.places; items = l }) c.listed-items.ensures
-    ∙ f.ensures.whole
+returns c = outlined_shown c.read_into.ensures c.in_ok-found.was

@@ -1,59 +1,49 @@
 -- `pack_read::read_inside` meets its contract. The loop keeps what is left, and that the slots hold the payloads so far (proofs/Listing), for any fuel that
 -- is enough.
-use mathlib.Core.Path.{◌≡◌, sym, ◌∙◌}
+use Rattle.std.specs.Prelude.{Err}
+use mathlib.Core.Path.{◌≡◌, sym, ap, ◌∙◌}
 use native.Mathlib.Omega.{arith}
-use Rattle.pack.specs.Payloads.{inner_at}
-use Rattle.pack.specs.declared.Found.TheVariants.{Whole}
-use Rattle.pack.proofs.Payloads.{inner_within}
+use Rattle.pack.specs.Payloads.{inner_at, whole}
+use Rattle.pack.proofs.Payloads.{Fits, inner_within}
 use Rattle.pack_read.proofs.Listing.{filling_begins, filling_on, filling_ends, filling_stops}
 use Rattle.pack_read.proofs.read_inside.Goals as goal
-use Rattle.pack_read.proofs.read_inside.Goals.{In-Whole}
+use Rattle.pack_read.proofs.read_inside.Goals.{In-Ok}
 
--- in the arm of a whole payload, the payload is there
-abbrev WholeAt : In-Whole → Type 0
-WholeAt c =
-    inner_at c.args.q.now c.loop-j.j c.loop-j.k ≡ Whole c.in-Whole.tag c.in-Whole.value_start c.in-Whole.value_len
+-- where an element is, it stands in the part
+element : (c : In-Ok)
+    → let x = c.in-Ok.element in inner_at c.args.q.now c.loop-at.at c.loop-at.n ≡ whole x.tag x.value.start x.value.len
+element c = sym c.inner_at.ensures ∙ c.in-Ok.is
 
-whole : (c : In-Whole) → WholeAt c
-whole c = sym c.inner_at-found.ensures ∙ c.in-Whole.is
+within : (c : In-Ok)
+    → let x = c.in-Ok.element in Fits c.args.q.now c.loop-at.at c.loop-at.n x.value.start x.value.len
+within c = inner_within _ _ _ _ _ _ (element c)
 
-pub loop-j-init : goal.loop-j-init
-loop-j-init c = λ fuel h. filling_begins _ _ _ _ _ _ c.requires.0 h c.requires.4
+pub loop-at-init : goal.loop-at-init
+loop-at-init c = λ fuel h. filling_begins _ _ _ _ _ _ c.requires.0 h
 
 pub overflow_add-base : goal.overflow_add-base
-overflow_add-base c = omega (arith, c.requires.1, c.loop-j-test.true)
+overflow_add-base c = omega (arith, c.requires.1, c.loop-at-test.true)
 
-pub returns-in-Wrong : goal.returns-in-Wrong
-returns-in-Wrong c =
-    filling_stops c.loop-j.invariant c.loop-j-test.true (sym c.inner_at-found.ensures ∙ c.in-Wrong.is) c.refuse.ensures
+pub returns-in-Err : goal.returns-in-Err
+returns-in-Err c = filling_stops c.loop-at.invariant c.loop-at-test.true (sym c.inner_at.ensures ∙ c.in-Err.is) (ap Err c.at.ensures)
 
-pub overflow_add-base-in-Whole : goal.overflow_add-base-in-Whole
-overflow_add-base-in-Whole c = omega (arith, c.requires.1, c.loop-j-test.true)
+pub payload-requires : goal.payload-requires
+payload-requires c = let w = within (goal.at.payload-requires c).In-Ok in omega (arith, w.later, w.inside, c.requires.1)
 
-pub overflow_add-base-in-Whole-2 : goal.overflow_add-base-in-Whole-2
-overflow_add-base-in-Whole-2 c = let w = inner_within _ _ _ _ _ _ (whole c) in omega (arith, w.inside, c.requires.1)
+pub bounds-items-n : goal.bounds-items-n
+bounds-items-n c = (within (goal.at.bounds-items-n c).In-Ok).room
 
-pub payload-x-requires : goal.payload-x-requires
-payload-x-requires c =
-    let w = inner_within _ _ _ _ _ _ (whole c) in
-    let p = c.requires in
-    (p.2, p.3, omega (arith, w.later, w.inside, p.1))
+pub overflow_add-n : goal.overflow_add-n
+overflow_add-n c = let w = within (goal.at.overflow_add-n c).In-Ok in omega (arith, w.room)
 
-pub put-requires : goal.put-requires
-put-requires c = (inner_within _ _ _ _ _ _ (whole (goal.at.put-requires c).In-Whole)).room
+pub overflow_add-at : goal.overflow_add-at
+overflow_add-at c = let w = within (goal.at.overflow_add-at c).In-Ok in omega (arith, w.inside, c.requires.1)
 
-pub overflow_add-k : goal.overflow_add-k
-overflow_add-k c = let w = inner_within _ _ _ _ _ _ (whole (goal.at.overflow_add-k c).In-Whole) in omega (arith, w.room)
+pub loop-at-smaller : goal.loop-at-smaller
+loop-at-smaller c = let w = within (goal.at.loop-at-smaller c).In-Ok in omega (arith, w.later, w.inside, c.loop-at-test.true)
 
-pub overflow_add-j : goal.overflow_add-j
-overflow_add-j c = let w = inner_within _ _ _ _ _ _ (whole (goal.at.overflow_add-j c).In-Whole) in omega (arith, w.inside, c.requires.1)
-
-pub loop-j-smaller : goal.loop-j-smaller
-loop-j-smaller c = let w = inner_within _ _ _ _ _ _ (whole (goal.at.loop-j-smaller c).In-Whole) in omega (arith, w.later, w.inside, c.loop-j-test.true)
-
-pub loop-j-preserved : goal.loop-j-preserved
-loop-j-preserved c =
-    λ fuel h. filling_on (c.loop-j.invariant fuel h) c.loop-j-test.true (whole (goal.at.loop-j-preserved c).In-Whole) c.payload-x.ensures c.put.ensures
+pub loop-at-preserved : goal.loop-at-preserved
+loop-at-preserved c = λ fuel h. filling_on (c.loop-at.invariant fuel h) c.loop-at-test.true (element (goal.at.loop-at-preserved c).In-Ok) c.payload.ensures
 
 pub returns : goal.returns
-returns c = filling_ends c.loop-j.invariant c.loop-j-test.false
+returns c = filling_ends c.loop-at.invariant c.loop-at-test.false

@@ -21,7 +21,7 @@ returns-in-Inner c = c.payload_row-in-Inner.ensures ∙ as_row (goal.at.returns-
 
 pub returns-in-Sync : goal.returns-in-Sync
 unfolding item_row
-returns-in-Sync c = row_sync _ c.extended.ensures ∙ as_row (goal.at.returns-in-Sync c).Start c.in-Sync.is
+returns-in-Sync c = row_sync _ c.extended-offset.ensures ∙ as_row (goal.at.returns-in-Sync c).Start c.in-Sync.is
 
 pub payload_row-requires : goal.payload_row-requires
 payload_row-requires c = single_fits _ c.in-Single.is c.requires

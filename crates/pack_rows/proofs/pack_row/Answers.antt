@@ -8,5 +8,5 @@ use Rattle.pack_rows.proofs.pack_row.Goals as goal
 pub returns : goal.returns
 unfolding pack_row
 returns c =
-    let n = c.args.count in
-    ap₂ (λ (o m : ℕ). o ∷ m ∷ n ∷ 0 ∷ 0 ∷ 0 ∷ 0 ∷ 0 ∷ []) c.extended.ensures c.mark.ensures
+    let n = c.args.found.count in
+    ap₂ (λ (o m : ℕ). o ∷ m ∷ n ∷ 0 ∷ 0 ∷ 0 ∷ 0 ∷ 0 ∷ []) c.extended-offset.ensures c.mark.ensures

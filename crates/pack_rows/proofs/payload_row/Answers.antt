@@ -8,10 +8,10 @@ returns-in-Number c =
     let a = c.args in
     row_number a.places.now a.form a.x.start a.x.value_start a.x.value_len a.x.total _ c.in-Number.is
 
+pub bounds-places-i : goal.bounds-places-i
+bounds-places-i c = label_fits _ c.in-Label.is c.requires
+
 pub returns-in-Label : goal.returns-in-Label
 returns-in-Label c =
     let a = c.args in
     row_label a.places.now a.form a.x.start a.x.value_start a.x.value_len a.x.total _ c.in-Label.is
-
-pub bounds-places-i : goal.bounds-places-i
-bounds-places-i c = label_fits _ c.in-Label.is c.requires

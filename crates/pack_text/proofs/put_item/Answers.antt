@@ -5,19 +5,19 @@ use native.Mathlib.Omega.{arith}
 use lib.ListN.{length}
 use Rattle.runs.proofs.Over.{wrote_as}
 use Rattle.pack.specs.declared.Item.{Item}
-use Rattle.pack_text.specs.Slots.{item_line, ItemStands}
+use Rattle.pack_text.specs.Items.{item_line, ItemStands}
 use Rattle.pack_text.proofs.Fields.{line_room}
-use Rattle.pack_text.proofs.Slots.{item_is}
+use Rattle.pack_text.proofs.Items.{item_is}
 use Rattle.pack_text.proofs.put_item.Goals as goal
 use Rattle.pack_text.proofs.put_item.Goals.{Start}
 
 -- what is asked and written, by what the item is
 room : (b : Start) {y : Item}
-    → let a = b.args in a.item ≡ y → (a.at + length (item_line a.pack.now a.places y) ≤ length a.out.now) × ItemStands a.pack.now a.places y
-room b e = let a = b.args in item_is a.pack.now a.places a.at (length a.out.now) e b.requires
+    → let a = b.args in a.item ≡ y → (a.at + length (item_line a.pack.now a.places.now y) ≤ length a.out.now) × ItemStands a.pack.now a.places.now y
+room b e = let a = b.args in item_is a.pack.now a.places.now a.at (length a.out.now) e b.requires
 
-as_line : (b : Start) {y : Item} → let a = b.args in a.item ≡ y → item_line a.pack.now a.places y ≡ item_line a.pack.now a.places a.item
-as_line b e = let a = b.args in ap (item_line a.pack.now a.places) (sym e)
+as_line : (b : Start) {y : Item} → let a = b.args in a.item ≡ y → item_line a.pack.now a.places.now y ≡ item_line a.pack.now a.places.now a.item
+as_line b e = let a = b.args in ap (item_line a.pack.now a.places.now) (sym e)
 
 pub put_payload-requires : goal.put_payload-requires
 put_payload-requires c = room (goal.at.put_payload-requires c).Start c.in-Single.is

@@ -7,6 +7,6 @@ use Rattle.pack_text.proofs.put_number.Goals as goal
 pub returns : goal.returns
 returns c =
     let a = c.args in
-    let left = next_field (first_field a.out.now a.at (number_fields a.start a.tag a.len a.total) (omega arith) c.requires) c.put_word-start_at.ensures in
+    let left = next_field (first_field a.out.now a.at (number_fields a.payload.start a.tag a.payload.value_len a.payload.total) (omega arith) c.requires) c.put_word-start_at.ensures in
     let left = next_field (next_field left c.put_decimal-tag_at.ensures) c.put_decimal-len_at.ensures in
     last_field (next_field left c.put_decimal-total_at.ensures) c.put_signed32.ensures

@@ -8,7 +8,7 @@ use Rattle.pack.specs.Fixed.{mapping_cap}
 use Rattle.pack.specs.Meaning.{stretch}
 use Rattle.pack_text.specs.Text.{line, label_fields, number_fields, payload_line}
 use Rattle.pack_text.proofs.Fields.{line_room}
-use Rattle.pack_text.proofs.Slots.{line_label, label_stands, line_number}
+use Rattle.pack_text.proofs.Items.{line_label, label_stands, line_number}
 use Rattle.pack_text.proofs.put_payload.Goals as goal
 use Rattle.pack_text.proofs.put_payload.Goals.{In-Label, In-Number}
 
@@ -16,26 +16,23 @@ use Rattle.pack_text.proofs.put_payload.Goals.{In-Label, In-Number}
 stands : (c : In-Label)
     → let a = c.args in
     let i = c.in-Label.i in
-    (i < mapping_cap) × (get_or a.places i 0 + 16 ≤ length a.pack.now)
-stands c = let a = c.args in label_stands a.pack.now a.places c.in-Label.is c.requires.1
+    (i < mapping_cap) × (get_or a.places.now i 0 + 16 ≤ length a.pack.now)
+stands c = let a = c.args in label_stands a.pack.now a.places.now c.in-Label.is c.requires.1
 
 -- the line, by the name
 label_line : (c : In-Label)
     → let a = c.args in
-    let p = get_or a.places c.in-Label.i 0 in
-    payload_line a.pack.now a.places a.payload ≡ line (label_fields a.payload.start (stretch a.pack.now p (p + 16 - p)) a.payload.value_len a.payload.total)
-label_line c = let a = c.args in line_label a.pack.now a.places a.payload.start a.payload.value_len a.payload.total c.in-Label.is
+    let p = get_or a.places.now c.in-Label.i 0 in
+    payload_line a.pack.now a.places.now a.payload ≡ line (label_fields a.payload.start (stretch a.pack.now p (p + 16 - p)) a.payload.value_len a.payload.total)
+label_line c = let a = c.args in line_label a.pack.now a.places.now a.payload.start a.payload.value_len a.payload.total c.in-Label.is
 
 number_line : (c : In-Number)
     → let a = c.args in
-    payload_line a.pack.now a.places a.payload ≡ line (number_fields a.payload.start c.in-Number.tag a.payload.value_len a.payload.total)
-number_line c = let a = c.args in line_number a.pack.now a.places a.payload.start a.payload.value_len a.payload.total c.in-Number.is
+    payload_line a.pack.now a.places.now a.payload ≡ line (number_fields a.payload.start c.in-Number.tag a.payload.value_len a.payload.total)
+number_line c = let a = c.args in line_number a.pack.now a.places.now a.payload.start a.payload.value_len a.payload.total c.in-Number.is
 
 pub bounds-places-i : goal.bounds-places-i
-bounds-places-i c = let a = c.args in (label_stands a.pack.now a.places c.in-Label.is c.requires.1).0
-
-pub overflow_add-to : goal.overflow_add-to
-overflow_add-to c = omega (arith, (stands c).1)
+bounds-places-i c = let a = c.args in (label_stands a.pack.now a.places.now c.in-Label.is c.requires.1).0
 
 pub slice_bounds-put_label-end : goal.slice_bounds-put_label-end
 slice_bounds-put_label-end c = (stands (goal.at.slice_bounds-put_label-end c).In-Label).1

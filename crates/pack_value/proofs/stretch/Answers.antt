@@ -11,20 +11,20 @@ pub returns-then-pack-start : goal.returns-then-pack-start
 unfolding stretch_in
 returns-then-pack-start c =
     let a = c.args in
-    let h : length a.pack.now < a.start + a.len = omega arith in
+    let h : length a.pack.now < a.place.start + a.place.len = omega arith in
     simp (lt-leb _ _ h)
 
 pub returns-then-pack-start-2 : goal.returns-then-pack-start-2
 unfolding stretch_in
 returns-then-pack-start-2 c =
     let a = c.args in
-    let h : length a.pack.now < a.start + a.len = omega arith in
+    let h : length a.pack.now < a.place.start + a.place.len = omega arith in
     simp (lt-leb _ _ h)
 
 pub returns : goal.returns
 unfolding stretch_in
 returns c =
     let a = c.args in
-    let h : a.start + a.len ≤ length a.pack.now = omega arith in
-    let e : a.start + a.len - a.start ≡ a.len = omega arith in
+    let h : a.place.start + a.place.len ≤ length a.pack.now = omega arith in
+    let e : a.place.start + a.place.len - a.place.start ≡ a.place.len = omega arith in
     simp (le-leb _ _ h, e)

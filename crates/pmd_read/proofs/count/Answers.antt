@@ -1,75 +1,78 @@
 -- `pmd_read::count` meets its contract. Its loops keep that the numbers found so far, before what is read from here on, are the whole reading.
-use mathlib.Core.Path.{refl, sym, ◌∙◌}
-use mathlib.Core.List.{[]}
+use Prim.Native.Nat.{◌+◌, ◌<◌}
+use mathlib.Core.Path.{refl, sym, ap, ◌∙◌}
 use native.Mathlib.Omega.{arith}
-use borrow.Author.Rules.{rules}
-use lib.ListN.{length}
+use lib.ListN.{length, get_or}
+use Rattle.std.specs.Prelude.{Err}
+use Rattle.std.proofs.lemmas.Result.{err_from_is_err_and}
 use Rattle.refusals.proofs.Lent.{answers}
-use Rattle.pmd.proofs.Walk.{pieces_begin, fields_begin, pieces_on, pieces_over}
-use Rattle.pmd_read.proofs.Kept.{Any, InShape, found_none, due_fits, due_short, due_bad, due_on, over_answers, over_again}
+use Rattle.pmd.specs.Table.{nonzero}
+use Rattle.pmd.proofs.Walk.{blank, walkable, fields_begin, fields_on, pieces_on, pieces_over}
+use Rattle.pmd_read.proofs.Kept.{Any, InShape, behind, Numbered, found_none, found_at, due_fits, due_short, due_bad, due_on, partner_due, partner_none, second_short, second_on, over_answers, over_again}
+use Rattle.pmd_read.proofs.Ends.{end_was, end_none}
+use Rattle.pmd_read.proofs.count.Given.{Over}
 use Rattle.pmd_read.proofs.count.Goals as goal
-use Rattle.pmd_read.proofs.count.Goals.{After-loop-i-2}
+use Rattle.pmd_read.proofs.count.Goals.{After-has_partner, After-goes_on, then-has_partner+in_ok-at, else-has_partner}
 
-over : (c : After-loop-i-2) → InShape Any c.args.shape c.args.s.now c.loop-i-2.at c.loop-i-2.n []
-over c = pieces_over c.requires.1 c.loop-i-2-test.false c.loop-i-2.invariant
+-- what is known after a field
+field : (g : Over) (c : After-has_partner g)
+    → Numbered Any (nonzero g.row.TURNAROUNDS) c.args.shape c.args.s.now c.in_ok-end.end (c.fields.n + 1) c.pieces.i (get_or c.args.shape.pieces c.pieces.i blank) c.fetch-v.result
+field g c = let e = end_was _ _ _ c.in_ok-end.ensures in due_on c.fields.invariant e.0 c.fetch-v.ensures c.value.ensures e.1 (sym c.holds.ensures ∙ c.if-not-holds.false) refl
+
+pub records-init : goal.records-init
+records-init g c = record { known = found_none refl; there = omega (arith, (walkable c.args.shape).begins) }
+
+pub fields-init : goal.fields-init
+fields-init g c = fields_begin c.pieces.invariant c.pieces-test.true
+
+pub returns-in_err-end : goal.returns-in_err-end
+returns-in_err-end g c =
+    let p = err_from_is_err_and c.from_residual.result c.from_residual.ensures.1 in
+    let e = end_none _ _ _ c.in_err-end.ensures in
+    p.1 ∙ answers length (due_short c.fields.invariant e.0) (ap Err (p.2 ∙ e.1))
 
 pub returns-then-not-holds : goal.returns-then-not-holds
-returns-then-not-holds c =
-    answers length
-    (due_bad c.loop-more.invariant c.loop-more-test.true c.if-s-at.false c.fetch-v.ensures c.value_of.ensures (sym c.holds.ensures ∙ c.if-not-holds.true))
-    c.refused-then-not-holds.ensures
+returns-then-not-holds g c =
+    let e = end_was _ _ _ c.in_ok-end.ensures in
+    answers length (due_bad c.fields.invariant e.0 c.fetch-v.ensures c.value.ensures (sym c.holds.ensures ∙ c.if-not-holds.true)) (ap Err c.at.ensures)
 
-pub loop-more-preserved : goal.loop-more-preserved
-loop-more-preserved c =
-    due_on c.loop-more.invariant c.loop-more-test.true c.if-s-at.false c.fetch-v.ensures c.value_of.ensures (sym c.holds.ensures ∙ c.if-not-holds.false) c.goes_on-more.ensures refl
+pub returns-in_err-at : goal.returns-in_err-at
+returns-in_err-at g c =
+    let p = err_from_is_err_and c.from_residual-in_err-at.result c.from_residual-in_err-at.ensures.1 in
+    let e = end_none _ _ _ c.in_err-at.ensures in
+    p.1 ∙ answers length (second_short (partner_due (field g (goal.at.returns-in_err-at g c).After-has_partner) (sym c.has_partner.ensures ∙ c.if-has_partner.true)) e.0) (ap Err (p.2 ∙ e.1))
 
-pub loop-i-init : goal.loop-i-init
-loop-i-init c = record { known = found_none refl; there = omega arith }
+-- and after its partner, if it has one
+next : (g : Over) (c : After-goes_on g)
+    → Numbered Any (nonzero g.row.TURNAROUNDS) c.args.shape c.args.s.now c.in_ok-end.end (c.fields.n + 1) c.pieces.i (get_or c.args.shape.pieces c.pieces.i blank) c.fetch-v.result
+    → InShape Any (nonzero g.row.TURNAROUNDS) c.args.shape c.args.s.now c.if-has_partner.at c.if-has_partner.n
+    (behind (nonzero g.row.TURNAROUNDS) c.args.shape c.pieces.i (get_or c.args.shape.pieces c.pieces.i blank) c.fetch-v.result)
+    × (c.fields.at < c.if-has_partner.at)
+next g c k =
+    let e = end_was _ _ _ c.in_ok-end.ensures in
+    let some = due_fits c.fields.invariant in
+    elim c.if-has_partner.branch [
+      | then-has_partner+in_ok-at w ↦
+          let o = partner_due k (sym c.has_partner.ensures ∙ w.if-has_partner.true) in
+          let q = end_was _ _ _ w.in_ok-at.ensures in
+          (found_at w.at-is w.n-is (second_on o q.1 q.0 refl), omega (arith, some, e.1, q.1, w.at-is))
+      | else-has_partner w ↦
+          let o = partner_none k (sym c.has_partner.ensures ∙ w.if-has_partner.false) in
+          (found_at w.at-is w.n-is o, omega (arith, some, e.1, w.at-is))
+    ]
 
-pub loop-i-2-init : goal.loop-i-2-init
-loop-i-2-init c = pieces_begin _ c.loop-i.invariant
+pub fields-preserved : goal.fields-preserved
+fields-preserved g c =
+    let k = next g (goal.at.fields-preserved g c).After-goes_on (field g (goal.at.fields-preserved g c).After-has_partner) in
+    fields_on c.fields.invariant _ k.1 (sym c.if-not-goes_on.ensures) k.0
 
-pub loop-more-init : goal.loop-more-init
-loop-more-init c = fields_begin c.requires.1 c.loop-i-2-test.true c.loop-i-2.invariant
-
-pub overflow_sub-s : goal.overflow_sub-s
-overflow_sub-s c = (due_fits c.loop-more.invariant c.loop-more-test.true).1
-
-pub returns-then-s-at : goal.returns-then-s-at
-returns-then-s-at c = answers length (due_short c.loop-more.invariant c.loop-more-test.true c.if-s-at.true) c.refused.ensures
-
-pub fetch-v-requires : goal.fetch-v-requires
-fetch-v-requires c = omega (arith, due_fits c.loop-more.invariant c.loop-more-test.true, c.if-s-at.false)
-
-pub overflow_add-at : goal.overflow_add-at
-overflow_add-at c = omega (arith, due_fits c.loop-more.invariant c.loop-more-test.true, c.if-s-at.false)
-
-pub overflow_add-n : goal.overflow_add-n
-overflow_add-n c = omega (arith, due_fits c.loop-more.invariant c.loop-more-test.true)
-
-pub loop-more-smaller : goal.loop-more-smaller
-loop-more-smaller c = omega (arith, due_fits c.loop-more.invariant c.loop-more-test.true, c.if-s-at.false)
-
-pub overflow_add-i : goal.overflow_add-i
-overflow_add-i c = omega (arith, c.loop-i-2-test.true)
-
-pub loop-i-2-smaller : goal.loop-i-2-smaller
-loop-i-2-smaller c = omega (arith, c.loop-i-2-test.true)
-
-pub loop-i-2-preserved : goal.loop-i-2-preserved
-loop-i-2-preserved c = pieces_on c.loop-more.invariant c.loop-i-2.invariant c.loop-more-test.false
-
-pub overflow_sub-rest : goal.overflow_sub-rest
-overflow_sub-rest c = c.loop-i-2.invariant.known.inside
-
-pub ended-requires : goal.ended-requires
-ended-requires c = let i = c.loop-i-2.invariant.known.inside in (search rules, (omega (arith, i), c.if-rest-lt8.true))
+pub pieces-preserved : goal.pieces-preserved
+pieces-preserved g c =
+    let k = next g (goal.at.pieces-preserved g c).After-goes_on (field g (goal.at.pieces-preserved g c).After-has_partner) in
+    pieces_on c.pieces.invariant (get_or c.args.shape.pieces c.pieces.i blank) c.fetch-v.result (omega (arith, k.1, c.fields.invariant.since)) (sym c.if-not-goes_on.ensures) c.passes.ensures.is k.0
 
 pub returns-then-rest-lt8 : goal.returns-then-rest-lt8
-returns-then-rest-lt8 c = over_answers (over (goal.at.returns-then-rest-lt8 c).After-loop-i-2) c.if-rest-lt8.true c.ended.ensures
+returns-then-rest-lt8 g c = over_answers (pieces_over c.pieces.invariant c.pieces-test.false) c.if-rest-lt8.true c.ended.ensures
 
-pub loop-i-smaller : goal.loop-i-smaller
-loop-i-smaller c = omega (arith, c.loop-i-2.invariant.gone, c.loop-i.invariant.there, c.loop-i-2-test.false, c.if-rest-lt8.false)
-
-pub loop-i-preserved : goal.loop-i-preserved
-loop-i-preserved c = over_again (over (goal.at.loop-i-preserved c).After-loop-i-2) c.requires.1 (omega (arith, c.if-rest-lt8.false))
+pub records-preserved : goal.records-preserved
+records-preserved g c = over_again (pieces_over c.pieces.invariant c.pieces-test.false) (omega (arith, c.if-rest-lt8.false))

@@ -1,98 +1,147 @@
 -- `pmd_read::fill` meets its contract. Its loops keep what those of `count` keep, and that the numbers found stand in the lent run. A value
 -- that was counted has each field, and each is good.
-use Prim.Native.Nat.{◌<◌}
-use mathlib.Core.Path.{refl}
-use mathlib.Core.List.{[]}
+use Prim.Native.Nat.{ℕ, ◌+◌, ◌*◌, ◌<◌, ◌≤◌}
+use mathlib.Core.Path.{refl, sym, ◌∙◌}
+use mathlib.Core.Bool.{Bool}
+use mathlib.Core.List.{List}
 use native.Mathlib.Omega.{arith}
-use lib.ListN.{length}
-use Rattle.pmd.proofs.Walk.{pieces_begin, fields_begin, pieces_on, pieces_over}
+use lib.ListN.{length, set, get_or, length-set}
+use Rattle.pmd.specs.declared.Shape.{Shape}
+use Rattle.pmd.specs.Table.{nonzero}
+use Rattle.pmd.proofs.Walk.{blank, walkable, fields_begin, fields_on, pieces_on, pieces_over}
 use Rattle.pmd.proofs.Frame.{Frame, frame_begins, frame_then, frame_set}
-use Rattle.pmd_read.proofs.Kept.{InShape, found_none, due, due_sure, due_stored, over_again, over_stored}
-use Rattle.pmd_read.proofs.Stored.{Stored, stored_on, stored_ends}
+use Rattle.pmd_read.proofs.Kept.{InShape, Numbered, behind, found_none, due_sure, due_stored, partner_due, partner_none, second_sure, second_stored, over_again, over_stored}
+use Rattle.pmd_read.proofs.Stored.{Stored, stored_on, stored_ends, moved}
+use Rattle.pmd_read.proofs.fill.Given.{Over}
 use Rattle.pmd_read.proofs.fill.Goals as goal
-use Rattle.pmd_read.proofs.fill.Goals.{After-loop-i-2, In-loop-more}
+use Rattle.pmd_read.proofs.fill.Goals.{At-fields, After-from-v, After-goes_on, Then-has_partner, then-has_partner, else-has_partner}
 
--- what is known where a record is closed
-module _ (c : After-loop-i-2) where
-  over : InShape (Stored c.loop-i-2.numbers c.loop-i-2.n) c.args.shape c.args.s.now c.loop-i-2.at c.loop-i-2.n []
-  over = pieces_over c.requires.1.0 c.loop-i-2-test.false c.loop-i-2.invariant.0
+-- after the number v of the piece i, which stands at n
+abbrev Put : Bool → Shape → List ℕ → List ℕ → ℕ → ℕ → ℕ → ℕ → Type 0
+Put turns shape s numbers at n i v =
+    let p = get_or shape.pieces i blank in Numbered (Stored (set numbers n v) (n + 1)) turns shape s (at + p.width) (n + 1) i p v
 
-  kept_rest : Frame c.args.numbers.now 0 c.loop-i-2.numbers c.loop-i-2.n
-  kept_rest = frame_then c.loop-i.invariant.1 c.loop-i-2.invariant.1
+-- and after its partner, if it has one
+abbrev Next : Bool → Shape → List ℕ → List ℕ → ℕ → ℕ → ℕ → ℕ → List ℕ → ℕ → ℕ → Type 0
+Next turns shape s before at₀ n₀ i v numbers at n =
+    InShape (Stored numbers n) turns shape s at n (behind turns shape i (get_or shape.pieces i blank) v) × (at₀ < at) × Frame before n₀ numbers n
 
--- the number that is stored has room
-room : (c : In-loop-more) → c.loop-more.n < length c.loop-more.numbers
-room c =
-    omega (
-      arith,
-      due_sure c.loop-more.invariant.0 c.loop-more-test.true c.requires.1.1,
-      c.loop-more.invariant.1.long,
-      c.loop-i-2.invariant.1.long,
-      c.loop-i.invariant.1.long,
-    )
+-- the number of a field has room
+room : (g : Over) (c : At-fields g) → c.fields.n < length c.fields.numbers
+room g c = omega (arith, due_sure c.fields.invariant.walk c.requires.1, c.fields.invariant.frame.long, c.pieces.invariant.frame.long, c.records.invariant.frame.long)
 
-pub loop-more-preserved : goal.loop-more-preserved
-loop-more-preserved c =
-    let f = c.loop-more in
-    let v = c.number_of-v.result in
-    let d = due f.invariant.0 c.loop-more-test.true in (
-      due_stored f.invariant.0 c.loop-more-test.true c.requires.1.1 c.fetch.ensures c.value_of.ensures c.number_of-v.ensures c.goes_on-more.ensures
-          (stored_on f.numbers d.xs f.n v (room (goal.at.loop-more-preserved c).In-loop-more) d.also),
-      frame_then f.invariant.1 (frame_set f.numbers f.n v),
-    )
+field : (g : Over) (c : After-from-v g) → c.fields.n < length c.fields.numbers
+    → Put (nonzero g.row.TURNAROUNDS) c.args.shape c.args.s.now c.fields.numbers c.fields.at c.fields.n c.pieces.i c.from-v.result
+field g c there =
+    let f = c.fields in
+    due_stored f.invariant.walk c.requires.1 c.fetch.ensures c.value.ensures c.from-v.ensures
+    (stored_on f.numbers f.invariant.walk.known.xs f.n c.from-v.result there f.invariant.walk.known.also)
 
-pub loop-i-2-preserved : goal.loop-i-2-preserved
-loop-i-2-preserved c =
-    let p = c.loop-i-2.invariant in
-    let f = c.loop-more.invariant in
-    (pieces_on f.0 p.0 c.loop-more-test.false, frame_then p.1 f.1)
+-- where a partner is due, its bits are there, and its number has room
+module _ (g : Over) (c : Then-has_partner g) (put : Put (nonzero g.row.TURNAROUNDS) c.args.shape c.args.s.now c.fields.numbers c.fields.at c.fields.n c.pieces.i c.from-v.result) where
+  sure : (c.fields.n + 1 ≤ c.fields.at + (get_or c.args.shape.pieces c.pieces.i blank).width)
+      × (c.fields.at + (get_or c.args.shape.pieces c.pieces.i blank).width + 8 ≤ 8 * length c.args.s.now)
+      × (1 ≤ 8) × (8 ≤ 15) × (c.fields.n + 1 < length c.args.numbers.now)
+  sure = second_sure (partner_due put (sym c.has_partner.ensures ∙ c.if-has_partner.true)) c.requires.1
 
-pub returns-then-s-at-lt8 : goal.returns-then-s-at-lt8
-returns-then-s-at-lt8 c =
-    let o = over (goal.at.returns-then-s-at-lt8 c).After-loop-i-2 in
-    stored_ends (over_stored o c.requires.1.1 c.if-s-at-lt8.true) o.long o.also (kept_rest (goal.at.returns-then-s-at-lt8 c).After-loop-i-2)
+  room_2 : c.fields.n + 1 < length (set c.fields.numbers c.fields.n c.from-v.result)
+  room_2 =
+      omega (
+        arith,
+        sure,
+        length-set c.fields.numbers c.fields.n c.from-v.result,
+        c.fields.invariant.frame.long,
+        c.pieces.invariant.frame.long,
+        c.records.invariant.frame.long,
+      )
 
-pub loop-i-init : goal.loop-i-init
-loop-i-init c = (record { known = found_none refl; there = omega arith }, frame_begins _ 0)
+next : (g : Over) (c : After-goes_on g) → c.fields.n < length c.fields.numbers
+    → Put (nonzero g.row.TURNAROUNDS) c.args.shape c.args.s.now c.fields.numbers c.fields.at c.fields.n c.pieces.i c.from-v.result
+    → Next (nonzero g.row.TURNAROUNDS) c.args.shape c.args.s.now c.fields.numbers c.fields.at c.fields.n c.pieces.i c.from-v.result
+    c.if-has_partner.numbers c.if-has_partner.at c.if-has_partner.n
+next g c there put =
+    let some = due_sure c.fields.invariant.walk c.requires.1 in
+    let f = c.fields in
+    let v = c.from-v.result in
+    let M = Next (nonzero g.row.TURNAROUNDS) c.args.shape c.args.s.now f.numbers f.at f.n c.pieces.i v in
+    elim c.if-has_partner.branch [
+      | then-has_partner w ↦
+          let o = partner_due put (sym c.has_partner.ensures ∙ w.if-has_partner.true) in
+          let run = set f.numbers f.n v in
+          let long : f.n + 1 < length run =
+          omega (arith, second_sure o c.requires.1, length-set f.numbers f.n v, f.invariant.frame.long, c.pieces.invariant.frame.long, c.records.invariant.frame.long) in
+          moved M w.numbers-is w.at-is w.n-is (
+            second_stored o c.requires.1 w.fetch-then-has_partner.ensures w.value-then-has_partner.ensures w.from.ensures
+                (stored_on run o.xs (f.n + 1) w.from.result long o.also),
+            omega (arith, some),
+            frame_then (frame_set f.numbers f.n v) (frame_set run (f.n + 1) w.from.result),
+          )
+      | else-has_partner w ↦
+          moved M w.numbers-is w.at-is w.n-is (partner_none put (sym c.has_partner.ensures ∙ w.if-has_partner.false), omega (arith, some), frame_set f.numbers f.n v)
+    ]
 
-pub loop-i-2-init : goal.loop-i-2-init
-loop-i-2-init c = (pieces_begin _ c.loop-i.invariant.0, frame_begins _ _)
+pub records-init : goal.records-init
+records-init g c = record {
+  walk = record { known = found_none refl; there = omega (arith, (walkable c.args.shape).begins) };
+  frame = frame_begins _ 0;
+}
 
-pub loop-more-init : goal.loop-more-init
-loop-more-init c = (fields_begin c.requires.1.0 c.loop-i-2-test.true c.loop-i-2.invariant.0, frame_begins _ _)
+pub fields-init : goal.fields-init
+fields-init g c = record { walk = fields_begin c.pieces.invariant.walk c.pieces-test.true; frame = frame_begins _ _ }
 
 pub fetch-requires : goal.fetch-requires
-fetch-requires c = omega (arith, due_sure c.loop-more.invariant.0 c.loop-more-test.true c.requires.1.1)
-
-pub offset_bounds-numbers-n : goal.offset_bounds-numbers-n
-offset_bounds-numbers-n c = omega (arith, due_sure c.loop-more.invariant.0 c.loop-more-test.true c.requires.1.1)
+fetch-requires g c = omega (arith, due_sure c.fields.invariant.walk c.requires.1)
 
 pub bounds-numbers-n : goal.bounds-numbers-n
-bounds-numbers-n c = room (goal.at.bounds-numbers-n c).In-loop-more
+bounds-numbers-n g c = room g (goal.at.bounds-numbers-n g c).At-fields
 
-pub overflow_add-at : goal.overflow_add-at
-overflow_add-at c = omega (arith, due_sure c.loop-more.invariant.0 c.loop-more-test.true c.requires.1.1)
+pub fetch-requires-then-has_partner : goal.fetch-requires-then-has_partner
+fetch-requires-then-has_partner g c =
+    let at = goal.at.fetch-requires-then-has_partner g c in
+    omega (arith, sure g at.Then-has_partner (field g at.After-from-v (room g at.At-fields)))
 
-pub overflow_add-n : goal.overflow_add-n
-overflow_add-n c = omega (arith, due_sure c.loop-more.invariant.0 c.loop-more-test.true c.requires.1.1)
+pub bounds-numbers-n-then-has_partner : goal.bounds-numbers-n-then-has_partner
+bounds-numbers-n-then-has_partner g c =
+    let at = goal.at.bounds-numbers-n-then-has_partner g c in room_2 g at.Then-has_partner (field g at.After-from-v (room g at.At-fields))
 
-pub loop-more-smaller : goal.loop-more-smaller
-loop-more-smaller c = omega (arith, due_sure c.loop-more.invariant.0 c.loop-more-test.true c.requires.1.1)
+pub fields-smaller : goal.fields-smaller
+fields-smaller g c =
+    let at = goal.at.fields-smaller g c in
+    let there = room g at.At-fields in
+    let k = next g at.After-goes_on there (field g at.After-from-v there) in
+    omega (arith, k.1, k.0.inside)
 
-pub overflow_add-i : goal.overflow_add-i
-overflow_add-i c = omega (arith, c.loop-i-2-test.true)
+pub fields-preserved : goal.fields-preserved
+fields-preserved g c =
+    let at = goal.at.fields-preserved g c in
+    let there = room g at.At-fields in
+    let k = next g at.After-goes_on there (field g at.After-from-v there) in
+    record {
+      walk =
+          fields_on c.fields.invariant.walk {L = InShape (Stored c.if-has_partner.numbers c.if-has_partner.n) (nonzero g.row.TURNAROUNDS) c.args.shape c.args.s.now c.if-has_partner.at c.if-has_partner.n}
+          c.from-v.result k.1 (sym c.if-not-goes_on.ensures) k.0;
+      frame = frame_then c.fields.invariant.frame k.2;
+    }
 
-pub loop-i-2-smaller : goal.loop-i-2-smaller
-loop-i-2-smaller c = omega (arith, c.loop-i-2-test.true)
+pub pieces-preserved : goal.pieces-preserved
+pieces-preserved g c =
+    let at = goal.at.pieces-preserved g c in
+    let there = room g at.At-fields in
+    let k = next g at.After-goes_on there (field g at.After-from-v there) in
+    record {
+      walk =
+          pieces_on c.pieces.invariant.walk {L = InShape (Stored c.if-has_partner.numbers c.if-has_partner.n) (nonzero g.row.TURNAROUNDS) c.args.shape c.args.s.now c.if-has_partner.at c.if-has_partner.n} (get_or c.args.shape.pieces c.pieces.i blank) c.from-v.result (omega (arith, k.1, c.fields.invariant.walk.since))
+          (sym c.if-not-goes_on.ensures) c.passes.ensures.is k.0;
+      frame = frame_then c.pieces.invariant.frame (frame_then c.fields.invariant.frame k.2);
+    }
 
-pub overflow_sub-s : goal.overflow_sub-s
-overflow_sub-s c = c.loop-i-2.invariant.0.known.inside
+pub returns-then-s-at-lt8 : goal.returns-then-s-at-lt8
+returns-then-s-at-lt8 g c =
+    let o = pieces_over c.pieces.invariant.walk c.pieces-test.false in
+    stored_ends (over_stored o c.requires.1 c.if-s-at-lt8.true) o.long o.also (frame_then c.records.invariant.frame c.pieces.invariant.frame)
 
-pub shape_of-numbers-then-s-at-lt8 : goal.shape_of-numbers-then-s-at-lt8
-shape_of-numbers-then-s-at-lt8 c = (kept_rest (goal.at.shape_of-numbers-then-s-at-lt8 c).After-loop-i-2).long
-
-pub loop-i-smaller : goal.loop-i-smaller
-loop-i-smaller c = omega (arith, c.loop-i-2.invariant.0.gone, c.loop-i.invariant.0.there, c.loop-i-2-test.false, c.if-s-at-lt8.false)
-
-pub loop-i-preserved : goal.loop-i-preserved
-loop-i-preserved c = (over_again (over (goal.at.loop-i-preserved c).After-loop-i-2) c.requires.1.0 c.if-s-at-lt8.false, kept_rest (goal.at.loop-i-preserved c).After-loop-i-2)
+pub records-preserved : goal.records-preserved
+records-preserved g c = record {
+  walk = over_again (pieces_over c.pieces.invariant.walk c.pieces-test.false) c.if-s-at-lt8.false;
+  frame = frame_then c.records.invariant.frame c.pieces.invariant.frame;
+}

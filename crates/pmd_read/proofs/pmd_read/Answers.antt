@@ -1,36 +1,38 @@
 -- `pmd_read::pmd_read` meets its contract: each return by what is delivered there.
-use native.Mathlib.Omega.{arith}
-use Rattle.pmd.proofs.Shapes.{ShapeFor, shape_for, shape_none}
+use mathlib.Core.Path.{ap, ◌∙◌}
+use Rattle.std.specs.Prelude.{Err}
+use Rattle.std.proofs.lemmas.Result.{err_from_is_err_and}
+use Rattle.pmd.specs.Table.{kind_of}
+use Rattle.pmd.proofs.Naming.{is_known, is_unknown}
+use Rattle.pmd.proofs.Shapes.{shape_turns, shape_row}
 use Rattle.pmd.proofs.Answers.{delivers_none, delivers_as}
-use Rattle.pmd_read.proofs.Answers.{read_unknown, read_big, read_turnaround, read_shape_lem}
+use Rattle.pmd_read.proofs.Answers.{read_unknown, read_big, read_shape_lem}
 use Rattle.pmd_read.proofs.pmd_read.Goals as goal
-use Rattle.pmd_read.proofs.pmd_read.Goals.{Then-shape-gt0}
 
-pub returns-in_default : goal.returns-in_default
-returns-in_default c = delivers_none (read_unknown c.args.kind c.args.value.now c.kind_of.ensures c.in_default.is) c.refused.ensures
+pub returns-in_err-kind : goal.returns-in_err-kind
+returns-in_err-kind c =
+    let p = err_from_is_err_and c.from_residual.result c.from_residual.ensures.1 in
+    let u = is_unknown (kind_of c.args.kind) c.in_err-kind.ensures in
+    delivers_none (read_unknown c.args.kind c.args.value.now u.0) (p.1 ∙ ap Err (p.2 ∙ u.1))
 
 pub returns-then-value-gt4096 : goal.returns-then-value-gt4096
 returns-then-value-gt4096 c =
-    delivers_none (read_big c.args.kind c.args.value.now c.kind_of.ensures c.in-Known.is c.if-value-gt4096.true) c.refused-then-value-gt4096.ensures
+    delivers_none (read_big c.args.kind c.args.value.now (is_known (kind_of c.args.kind) c.in_ok-kind.ensures) c.if-value-gt4096.true) (ap Err c.at.ensures)
 
--- a shape of some pieces is that of the kind
-held : (c : Then-shape-gt0) → ShapeFor c.in-Known.known c.shape_of-shape.result
-held c = shape_for c.shape_of-shape.ensures c.if-shape-gt0.true
-
-pub read_row-requires : goal.read_row-requires
-read_row-requires c = (c.if-value-gt4096.false, (held (goal.at.read_row-requires c).Then-shape-gt0).walkable)
-
-pub returns-then-shape-gt0 : goal.returns-then-shape-gt0
-returns-then-shape-gt0 c =
+pub returns-in-Etd : goal.returns-in-Etd
+returns-in-Etd c =
+    let of = c.shape_of.ensures in
     let a = c.args in
-    delivers_as (read_shape_lem a.kind a.value.now c.kind_of.ensures c.in-Known.is c.if-value-gt4096.false (held (goal.at.returns-then-shape-gt0 c).Then-shape-gt0)) c.read_row.ensures
+    delivers_as
+    (read_shape_lem a.kind a.value.now (is_known (kind_of a.kind) c.in_ok-kind.ensures) c.if-value-gt4096.false
+    (shape_turns _ c.shape_of.result of.pieces of.again of.size c.in-Etd.is))
+    c.read_by.ensures
 
--- turnarounds are what the kind of no pieces is read as
-pub returns : goal.returns
-returns c =
+pub returns-in_default : goal.returns-in_default
+returns-in_default c =
+    let of = c.shape_of-in_default.ensures in
     let a = c.args in
-    delivers_as (read_turnaround a.kind a.value.now c.kind_of.ensures c.in-Known.is c.if-value-gt4096.false (shape_none c.shape_of-shape.ensures (omega (arith, c.if-shape-gt0.false))))
-    c.read_turnarounds.ensures
-
-pub read_turnarounds-requires : goal.read_turnarounds-requires
-read_turnarounds-requires c = c.if-value-gt4096.false
+    delivers_as
+    (read_shape_lem a.kind a.value.now (is_known (kind_of a.kind) c.in_ok-kind.ensures) c.if-value-gt4096.false
+    (shape_row _ c.shape_of-in_default.result of.pieces of.again of.size c.in_default.not-Etd))
+    c.read_by-in_default.ensures

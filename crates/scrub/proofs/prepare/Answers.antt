@@ -1,43 +1,38 @@
 -- `scrub::prepare` meets its contract. Each pass asks what an accepted pack has, and the passes together prepare what is kept.
-use mathlib.Core.Path.{refl}
-use Prim.Native.Nat.{◌≤◌}
-use Rattle.scrub_sheet.specs.Asked.{asks}
-use Rattle.scrub.proofs.Accepting.{few_slots, flags_ask, note_asks, plan_asks, labels_few, index_asks, marks_ask, prepared}
+use Rattle.scrub.proofs.Accepting.{few_items, flags_ask, note_asks, plan_asks, labels_few, order_asks, marks_ask, index_asks, prepared}
 use Rattle.scrub.proofs.prepare.Goals as goal
-use Rattle.scrub.proofs.prepare.Goals.{After-note-labels}
 
 pub flags-flags-requires : goal.flags-flags-requires
-flags-flags-requires c =
-    let a = flags_ask _ (λ i. (c.type_inv.p i).fits) c.requires.0 (asks c.args.sheet.now c.args.asked) in
-    (a.0, a.1, c.requires.1)
+flags-flags-requires c = flags_ask c.requires.0 c.args.sheet.now
 
-pub note-labels-requires : goal.note-labels-requires
-note-labels-requires c =
-    (few_slots _ (λ i. (c.type_inv.p i).fits) c.requires.0 (asks c.args.sheet.now c.args.asked), note_asks _ (λ i. (c.type_inv.p i).fits) c.requires.0 (asks c.args.sheet.now c.args.asked), c.requires.1, refl, c.requires.2, refl)
-
-few : (n : After-note-labels) → n.note-labels.result ≤ 64
-few n = labels_few _ (λ i. (n.type_inv.p i).fits) n.requires.0 (asks n.args.sheet.now n.args.asked) _ n.flags-flags.ensures _ n.note-labels.ensures
+pub note-requires : goal.note-requires
+note-requires c = (few_items c.requires.0 c.args.sheet.now, note_asks c.requires.0 c.args.sheet.now, c.new-names.ensures)
 
 pub assign-requires : goal.assign-requires
-assign-requires c = (few (goal.at.assign-requires c).After-note-labels, c.requires.3)
+assign-requires c = (
+  labels_few c.requires.0 c.args.sheet.now _ c.flags-flags.ensures _ c.note.ensures,
+  order_asks c.requires.0 c.args.sheet.now _ c.flags-flags.ensures _ c.note.ensures,
+  c.requires.1,
+)
+
+pub shared_ref_as_front-by_index : goal.shared_ref_as_front-by_index
+shared_ref_as_front-by_index c = labels_few c.requires.0 c.args.sheet.now _ c.flags-flags.ensures _ c.note.ensures
 
 pub by_index-index-requires : goal.by_index-index-requires
-by_index-index-requires c =
-    (few (goal.at.by_index-index-requires c).After-note-labels, index_asks _ (λ i. (c.type_inv.p i).fits) c.requires.0 (asks c.args.sheet.now c.args.asked) _ c.flags-flags.ensures _ c.note-labels.ensures)
+by_index-index-requires c = index_asks c.requires.0 c.args.sheet.now _ c.flags-flags.ensures _ c.note.ensures _ c.assign.ensures
 
-pub plan_slots-bytes-requires : goal.plan_slots-bytes-requires
-plan_slots-bytes-requires c =
-    let g = c.requires.0 in (
-      few_slots _ (λ i. (c.type_inv.p i).fits) g (asks c.args.sheet.now c.args.asked),
-      plan_asks _ (λ i. (c.type_inv.p i).fits) g (asks c.args.sheet.now c.args.asked),
-      marks_ask _ (λ i. (c.type_inv.p i).fits) g (asks c.args.sheet.now c.args.asked) _ c.flags-flags.ensures _ c.note-labels.ensures,
-      c.requires.4,
-    )
-
-pub config_size-requires : goal.config_size-requires
-config_size-requires c = few (goal.at.config_size-requires c).After-note-labels
+pub plan_items-bytes-requires : goal.plan_items-bytes-requires
+plan_items-bytes-requires c = (
+  few_items c.requires.0 c.args.sheet.now,
+  plan_asks c.requires.0 c.args.sheet.now,
+  marks_ask c.requires.0 c.args.sheet.now _ c.flags-flags.ensures _ c.note.ensures,
+  c.requires.2,
+)
 
 pub returns : goal.returns
-returns c =
-    prepared _ (λ i. (c.type_inv.p i).fits) c.requires.0 (asks c.args.sheet.now c.args.asked) _ c.flags-flags.ensures _ c.note-labels.ensures _ _ _ _ _
-    c.assign.ensures c.by_index-index.ensures c.plan_slots-bytes.ensures c.config_size.ensures
+returns c = record {
+  few = labels_few c.requires.0 c.args.sheet.now _ c.flags-flags.ensures _ c.note.ensures;
+  ready =
+      prepared c.requires.0 c.args.sheet.now _ c.flags-flags.ensures _ c.note.ensures _ c.assign.ensures _ _ _ _ c.by_index-index.ensures c.plan_items-bytes.ensures
+      c.config_size.ensures;
+}

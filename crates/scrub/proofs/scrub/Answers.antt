@@ -1,24 +1,32 @@
--- `scrub::scrub` meets its contract. By the sheet's judgement and the pack's answer.
-use mathlib.Core.Path.{sym, ◌∙◌}
-use Rattle.scrub.specs.Ready.{Good}
-use Rattle.scrub.proofs.Outcome.{good_sheet, sheet_refused, pack_refused, pack_accepted}
+-- `scrub::scrub` meets its contract. By the sheet's judgement and the pack's reading.
+use mathlib.Core.Path.{◌≡◌, sym}
+use native.Mathlib.Omega.{arith}
+use lib.ListN.{length}
+use lib.Seq.{length-take-le}
+use borrow.Author.Rules.{rules}
+use Rattle.scrub.proofs.Outcome.{sheet_refused, pack_refused, pack_accepted, kept_scrubs, found_few}
 use Rattle.scrub.proofs.scrub.Goals as goal
-use Rattle.scrub.proofs.scrub.Goals.{After-read_into-shows}
 
-pub returns-then-refused : goal.returns-then-refused
-returns-then-refused c =
-    sheet_refused c.args.sheet.now c.args.pack.now c.args.out.now _ c.judge-asked.ensures (sym c.refused.ensures ∙ c.if-refused.true)
+pub returns-in_err-keeps : goal.returns-in_err-keeps
+returns-in_err-keeps c = sheet_refused c.args.sheet.now c.args.pack.now c.args.out.now c.in_err-keeps.ensures (search rules)
 
-good : (r : After-read_into-shows) → Good r.args.sheet.now r.judge-asked.result
-good r = good_sheet _ _ r.judge-asked.ensures (sym r.refused.ensures ∙ r.if-refused.false)
+pub returns-in_err-found : goal.returns-in_err-found
+returns-in_err-found c = pack_refused c.args.sheet.now c.args.pack.now c.args.out.now c.in_ok-keeps.ensures c.in_err-found.ensures (search rules)
+
+pub slice_bounds-items-end : goal.slice_bounds-items-end
+slice_bounds-items-end c =
+    let few = found_few c.args.pack.now (λ i. (c.type_inv.pack i).fits) c.in_ok-found.ensures in
+    let long : length c.read_into.new.items ≡ 64 = search rules in
+    omega arith
+
+pub slice_bounds-accepted-end-2 : goal.slice_bounds-accepted-end-2
+slice_bounds-accepted-end-2 c =
+    let few = found_few c.args.pack.now (λ i. (c.type_inv.pack i).fits) c.in_ok-found.ensures in
+    let long : length c.read_into.new.items ≡ 64 = search rules in
+    sym (length-take-le _ _ (omega arith))
 
 pub write_kept-requires : goal.write_kept-requires
-write_kept-requires c =
-    (good (goal.at.write_kept-requires c).After-read_into-shows, pack_accepted c.args.sheet.now c.args.pack.now c.args.out.now _ (good (goal.at.write_kept-requires c).After-read_into-shows) c.read_into-shows.ensures _ c.in-Done.is)
+write_kept-requires c = pack_accepted c.args.pack.now (λ i. (c.type_inv.pack i).fits) c.in_ok-found.ensures
 
-pub returns-in-Refused : goal.returns-in-Refused
-returns-in-Refused c =
-    pack_refused c.args.sheet.now c.args.pack.now c.args.out.now _ (good (goal.at.returns-in-Refused c).After-read_into-shows) c.read_into-shows.ensures _ _ c.in-Refused.is
-
-pub returns-in-Done : goal.returns-in-Done
-returns-in-Done c = c.write_kept.ensures
+pub returns : goal.returns
+returns c = kept_scrubs c.args.sheet.now c.args.pack.now c.args.out.now c.in_ok-keeps.ensures c.write_kept.ensures

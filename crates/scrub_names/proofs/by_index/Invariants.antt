@@ -1,10 +1,8 @@
--- `scrub_names::by_index` meets its contract. The loop places the tags from the last label to the first.
-use lib.ListN.{take}
-use Rattle.scrub_names.proofs.Naming.{Placing}
+-- `scrub_names::by_index` meets its contract. The loop places the tags from the last mapping to the first.
+use mathlib.Core.Path.{◌≡◌}
+use lib.ListN.{drop}
+use Rattle.scrub_names.specs.Given.{by_index}
 use Rattle.scrub_names.proofs.by_index.Given as goal
 
 abbrev pub invariant-loop-k : goal.invariant-loop-k
-invariant-loop-k l = Placing (take l.count l.order-2) l.tags-2 l.index l.k
-
-abbrev pub decreases-loop-k : goal.decreases-loop-k
-decreases-loop-k l = l.k
+invariant-loop-k l = l.index ≡ by_index (drop l.k l.mappings)

@@ -13,7 +13,7 @@ sizes : (c : After-length_size) → let a = c.args in
 sizes c = size_is c.args.tag c.args.len _ _ c.tag_size.ensures c.length_size.ensures
 
 pub returns : goal.returns
-returns c = let s = sizes c in let p = c.requires in (s.0, omega arith)
+returns c = let s = sizes c in let p = c.requires in record { size = s.0; small = omega arith }
 
 pub overflow_add-result : goal.overflow_add-result
 overflow_add-result c = let s = sizes c in let p = c.requires in omega arith

@@ -1,25 +1,18 @@
--- `scrub_sheet::has_label` meets its contract. The loop keeps what the labels that are left decide.
-use mathlib.Core.Path.{refl, sym, ◌∙◌}
+-- `scrub_sheet::has_label` meets its contract.
+use mathlib.Core.Path.{◌≡◌, sym, ◌∙◌}
+use Prim.Native.Nat.{◌-◌}
 use native.Mathlib.Omega.{arith}
 use Rattle.runs.specs.Same.{listed}
 use Rattle.scrub_kept.specs.Sheet.{labels_at}
-use Rattle.scrub_sheet.proofs.Runs.{left_decides, left_passes, left_ends, label_sought}
+use Rattle.scrub_sheet.proofs.Runs.{label_sought}
 use Rattle.scrub_sheet.proofs.has_label.Goals as goal
 
 pub returns-then-same_label : goal.returns-then-same_label
-returns-then-same_label c =
-    left_decides c.loop-left.invariant (label_sought _ _ _ (omega arith) _ (sym c.same_label.ensures ∙ c.if-same_label.true))
+returns-then-same_label c = sym (label_sought _ _ _ _ c.loop-k-test.true _ (sym c.same_label.ensures ∙ c.if-same_label.true)) ∙ c.loop-k.invariant
 
-pub loop-left-preserved : goal.loop-left-preserved
-loop-left-preserved c =
-    left_passes c.loop-left.invariant (omega (arith, c.loop-left.invariant.room)) (label_sought _ _ _ (omega arith) _ (sym c.same_label.ensures ∙ c.if-same_label.false))
+pub loop-k-preserved : goal.loop-k-preserved
+loop-k-preserved c = sym (label_sought _ _ _ _ c.loop-k-test.true _ (sym c.same_label.ensures ∙ c.if-same_label.false)) ∙ c.loop-k.invariant
 
 pub returns : goal.returns
 unfolding labels_at listed
-returns c = left_ends c.loop-left.invariant c.loop-left-test.false
-
-pub loop-left-init : goal.loop-left-init
-loop-left-init c = record { room = c.requires.1; decides = refl }
-
-pub same_label-requires : goal.same_label-requires
-same_label-requires c = (omega (arith, c.loop-left.invariant.room), c.requires.0)
+returns c = let z : c.args.count - c.loop-k.k ≡ 0 = omega arith in rw z at c.loop-k.invariant

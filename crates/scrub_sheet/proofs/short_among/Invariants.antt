@@ -2,8 +2,5 @@
 use Rattle.scrub_sheet.proofs.Short.{Finding}
 use Rattle.scrub_sheet.proofs.short_among.Given as goal
 
-abbrev pub invariant-loop-left : goal.invariant-loop-left
-invariant-loop-left l = Finding l.s l.at l.count l.found l.next l.left
-
-abbrev pub decreases-loop-left : goal.decreases-loop-left
-decreases-loop-left l = l.left
+abbrev pub invariant-loop-k : goal.invariant-loop-k
+invariant-loop-k l = Finding l.s l.at l.count l.found l.k

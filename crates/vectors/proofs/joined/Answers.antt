@@ -1,15 +1,16 @@
 -- `vectors::joined` meets its contract. The loop keeps what is still to be put.
+use mathlib.Core.Path.{◌∙◌}
 use native.Mathlib.Omega.{arith}
 use Rattle.vectors.proofs.Loops.{joining_begins, joining_on, joining_cut, joining_ends}
 use Rattle.vectors.proofs.joined.Goals as goal
 
 pub loop-at-preserved : goal.loop-at-preserved
 loop-at-preserved c =
-    (omega arith, joining_on c.loop-at.invariant.1 c.loop-at-test.true c.be16-times.ensures c.be16-size.ensures c.if-parts-begin.false c.repeated-n.ensures.1)
+    (omega arith, joining_on c.loop-at.invariant.1 c.loop-at-test.true (c.from-times.ensures ∙ c.be16.ensures) (c.from-size.ensures ∙ c.be16-in-loop-at.ensures) c.if-parts-begin.false c.repeated-n.ensures.1)
 
 pub returns-then-parts-begin : goal.returns-then-parts-begin
 returns-then-parts-begin c =
-    joining_cut c.loop-at.invariant.1 c.loop-at-test.true (omega (arith, c.if-parts-begin.true, c.be16-size.ensures))
+    joining_cut c.loop-at.invariant.1 c.loop-at-test.true (omega (arith, c.if-parts-begin.true, c.from-size.ensures, c.be16-in-loop-at.ensures))
 
 pub loop-at-init : goal.loop-at-init
 loop-at-init c = (omega arith, joining_begins _ _)

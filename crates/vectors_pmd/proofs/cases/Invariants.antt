@@ -1,9 +1,9 @@
--- `cases` ends: its place stays within the input, each turn passes four bytes at least, and no more cases were run than bytes passed.
-use Rattle.std.proofs.Common.{◌≤◌, ◌-◌, length}
+-- `cases` ends: each turn leaves four bytes fewer at least, and no more cases were run than bytes passed.
+use Rattle.std.proofs.Common.{◌+◌, ◌≤◌, length}
 use Rattle.vectors_pmd.proofs.cases.Given as goal
 
-abbrev pub invariant-loop-at : goal.invariant-loop-at
-invariant-loop-at g l = (l.at ≤ length l.s) × (l.n ≤ l.at)
+abbrev pub invariant-loop-size : goal.invariant-loop-size
+invariant-loop-size g l = l.n + length l.left ≤ length l.all
 
-abbrev pub decreases-loop-at : goal.decreases-loop-at
-decreases-loop-at g l = length l.s - l.at
+abbrev pub decreases-loop-size : goal.decreases-loop-size
+decreases-loop-size g l = length l.left
