@@ -44,8 +44,13 @@ never why place z = let done = done_told (Err (refused_at why place)) z in absur
 marks_apart : (m n : Mark) → mark_number m ≡ mark_number n → m ≡ n
 marks_apart M.Main M.Main e = refl
 marks_apart M.Main M.Backup e = absurd_eq (cc)
+marks_apart M.Main M.Neither e = absurd_eq (cc)
 marks_apart M.Backup M.Main e = absurd_eq (cc)
 marks_apart M.Backup M.Backup e = refl
+marks_apart M.Backup M.Neither e = absurd_eq (cc)
+marks_apart M.Neither M.Main e = absurd_eq (cc)
+marks_apart M.Neither M.Backup e = absurd_eq (cc)
+marks_apart M.Neither M.Neither e = refl
 
 found_same : (f g : Found) → told_found_of (Ok f) ≡ told_found_of (Ok g) → f ≡ g
 found_same f g e =
@@ -142,22 +147,26 @@ module _ (main backup l : List ℕ) where
       → FirstTold main backup l (record { number = 0; value = len; from = mark_number m; start = start; total = total })
   first_in M.Main start len total m = inl (refl, m.1, m.2)
   first_in M.Backup start len total m = inr (refl, m.1, m.2)
+  first_in M.Neither start len total m = absurd m
 
   total_in : (m : Mark) (start len : ℕ) (total : ℤ) → MeansIn m main backup l start len total
       → TotalTold main backup l (record { number = 0; value = len; from = mark_number m; start = start; total = total })
   total_in M.Main start len total m = inl (refl, m.3)
   total_in M.Backup start len total m = inr (refl, m.3)
+  total_in M.Neither start len total m = absurd m
 
   part_in : (m : Mark) (start len : ℕ) (total : ℤ) {v : List ℕ} → MeansIn m main backup l start len total → v ≡ stretch_in (pack_of m main backup) start len
       → PartTold main backup v (record { number = 0; value = len; from = mark_number m; start = start; total = total })
   unfolding stretch_in
   part_in M.Main start len total m q = inl (refl, (m.0, q ∙ simp (le-leb _ _ m.0)))
   part_in M.Backup start len total m q = inr (refl, (m.0, q ∙ simp (le-leb _ _ m.0)))
+  part_in M.Neither start len total m q = absurd m
 
   -- a pack that has a value does not say that it has none
   value_not_absent : {P : Type 0} (m : Mark) (start len : ℕ) (total : ℤ) → MeansIn m main backup l start len total → Says main (Without l) → Says backup (Without l) → P
   value_not_absent M.Main start len total m u v = same_said m.1 u (λ xs f w. absurd (first_named f w))
   value_not_absent M.Backup start len total m u v = same_said m.2 v (λ xs f w. absurd (first_named f w))
+  value_not_absent M.Neither start len total m u v = absurd m
 
   first_of_lem : (f : Looked) → Means main backup l f → (told_found_of f).number ≡ 0 → FirstTold main backup l (told_found_of f)
   first_of_lem (Ok f) m z = first_in f.from f.value.start f.value.len f.total m

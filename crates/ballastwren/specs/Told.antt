@@ -27,6 +27,7 @@ told_of a = record { number = (told a).number; value = (told a).value }
 abbrev pub mark_number : Mark → ℕ
 mark_number M.Main = 1
 mark_number M.Backup = 2
+mark_number M.Neither = 0
 
 -- a refusal of a look-up as its five numbers: with the pack at fault, 0 for neither, an empty stretch and 0
 abbrev pub told_unfound : Refused → ℕ → ToldFound

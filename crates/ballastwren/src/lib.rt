@@ -81,6 +81,7 @@ fn mark_number(mark: Mark) -> u64
     match mark {
         Mark::Main => 1,
         Mark::Backup => 2,
+        Mark::Neither => 0,
     }
 }
 

@@ -242,6 +242,7 @@ MeansIn M.Main main backup l start len total =
     (start + len ≤ length main) × Says main (First l (stretch main start len)) × Says backup (λ xs. Unit) × SaysTotals main (FirstTotal l (stretch main start len) total)
 MeansIn M.Backup main backup l start len total =
     (start + len ≤ length backup) × Says main (Without l) × Says backup (First l (stretch backup start len)) × SaysTotals backup (FirstTotal l (stretch backup start len) total)
+MeansIn M.Neither main backup l start len total = ⊥
 
 -- that value; main's refusal; backup's, where main is accepted; or that neither has the label
 abbrev pub Means : List ℕ → List ℕ → List ℕ → Looked → Type 0

@@ -15,25 +15,26 @@ use Rattle.pack.specs.declared.Name.{Name}
 use Rattle.pack.specs.declared.Payload.{Payload}
 use Rattle.pack.specs.declared.Head.{Head}
 use Rattle.lookup.specs.Lookup.{payloads_of}
-use Rattle.lookup.specs.Sought.{first_at, first_in, is_wanted, of_tag, Tells}
+use Rattle.lookup.specs.Sought.{spot_of, first_at, first_in, is_wanted, of_tag, Tells}
 use Rattle.lookup.specs.declared.Spot.{Spot}
 
 first_append : (xs ys : List Payload) → first_at (xs ++ ys) ≡ option_or (first_at xs) (first_at ys)
 first_append [] ys = refl
 first_append (x ∷ xs) ys = refl
 
--- a payload by its tag, by the test of the tag
-module _ (wanted : Option ℕ) (t start len total : ℕ) {b : Bool} (e : option_eq eqb wanted (Some t) ≡ b) where
-  tested : is_wanted wanted t ≡ b
-  tested = same wanted ∙ e
-    where
-      same : (w : Option ℕ) → is_wanted w t ≡ option_eq eqb w (Some t)
-      same None = refl
-      same (Some tag) = refl
+pub or_none : (x : Option Spot) → x ≡ option_or x None
+or_none None = refl
+or_none (Some x) = refl
 
-  pub by_tag : cond b (Some (record { start = start; len = len; total = total })) None ≡ of_tag wanted t start len total
+-- what was found before, or else a payload, by the test of its tag
+tested : (wanted : Option ℕ) (t : ℕ) → is_wanted wanted t ≡ option_eq eqb wanted (Some t)
+tested None t = refl
+tested (Some tag) t = refl
+
+module _ (wanted : Option ℕ) (t start len total : ℕ) {b : Bool} (e : option_eq eqb wanted (Some t) ≡ b) where
+  pub or_tag : (first : Option Spot) {next : Option Spot} → next ≡ option_or first (cond b (Some (spot_of start len total)) None) → next ≡ option_or first (of_tag wanted t start len total)
   unfolding of_tag
-  by_tag = sym (ap (λ (x : Bool). cond {A = Option Spot} x (Some (record { start = start; len = len; total = total })) None) tested)
+  or_tag first is = is ∙ sym (ap (λ (x : Bool). option_or first (cond x (Some (spot_of start len total)) None)) (tested wanted t ∙ e))
 
 module _ (test : Name → Bool) where
   in_append : (xs ys : List Payload) → first_in test (xs ++ ys) ≡ option_or (first_in test xs) (first_in test ys)

@@ -63,6 +63,7 @@ looked_up main backup l =
 abbrev pub pack_of : Mark → List ℕ → List ℕ → List ℕ
 pack_of M.Main main backup = main
 pack_of M.Backup main backup = backup
+pack_of M.Neither main backup = []
 
 -- the very stretch of that pack; nothing where no value is found
 unfoldable pub part_of : List ℕ → List ℕ → Looked → List ℕ

@@ -14,10 +14,14 @@ use Rattle.lookup.specs.Lookup.{payloads_of, carried}
 use Rattle.lookup.specs.declared.Inside.{Inside}
 use Rattle.lookup.specs.declared.Spot.{Spot}
 
--- where the first of some payloads has its value, and its total offset
+-- where a payload has its value, and its total offset
+abbrev pub spot_of : ℕ → ℕ → ℕ → Spot
+spot_of start len total = record { start = start; len = len; total = total }
+
+-- where the first of some payloads has its value
 abbrev pub first_at : List Payload → Option Spot
 first_at [] = None
-first_at (x ∷ xs) = Some (record { start = x.value_start; len = x.value_len; total = x.total })
+first_at (x ∷ xs) = Some (spot_of x.value_start x.value_len x.total)
 
 -- and the first of those whose name passes a test
 abbrev pub first_in : (Name → Bool) → List Payload → Option Spot
@@ -30,7 +34,7 @@ is_wanted (Some tag) t = eqb tag t
 
 -- a payload of the tag t, if that is the one that is sought
 unfoldable pub of_tag : Option ℕ → ℕ → ℕ → ℕ → ℕ → Option Spot
-of_tag wanted t start len total = cond (is_wanted wanted t) (Some (record { start = start; len = len; total = total })) None
+of_tag wanted t start len total = cond (is_wanted wanted t) (Some (spot_of start len total)) None
 
 -- by these mapped tags the name of a tag passes the test exactly if the tag is the one that is sought
 abbrev pub Tells : List ℕ → (Name → Bool) → Option ℕ → Type 0

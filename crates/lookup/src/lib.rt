@@ -1,6 +1,7 @@
 #![tactic(auto)]
 // The value of a label's first payload in the main pack or else in the backup pack, and a mark that says in which.
-ghost use Rattle.std.specs.Prelude.{◌≡◌, List, Bool, ℕ, ◌+◌, ◌≤◌, length, take};
+ghost use Rattle.std.specs.Prelude.{◌≡◌, List, Bool, Some, ℕ, ◌+◌, ◌≤◌, length, take};
+ghost use Rattle.std.specs.Option.{option_or};
 ghost use Rattle.refusals.specs.Outcomes.{answered};
 ghost use Rattle.pack.specs.Payloads.{ground_of};
 ghost use Rattle.pack.specs.Items.{items_from};
@@ -8,17 +9,18 @@ ghost use Rattle.pack.specs.Reading.{reading};
 ghost use Rattle.pack.specs.declared.Name.{Name};
 ghost use Rattle.pack_config.specs.Index.{LabelsLie};
 ghost use Rattle.lookup.specs.Lookup.{found_in, looked_up, part_of};
-ghost use Rattle.lookup.specs.Sought.{of_tag, Tells, wanted_tag, InsideSought, sought_body, sought_read};
+ghost use Rattle.lookup.specs.Sought.{spot_of, Tells, wanted_tag, InsideSought, sought_body, sought_read};
 
 use pack::{Element, Step, Stretch};
 use pack_config::Mappings;
 use refusals::{Refusal, Refused};
 
-// Which of the two packs.
+// Which of the two packs, or neither.
 #[derive(Clone, Copy, Debug, PartialEq, Eq)]
 pub enum Mark {
     Main,
     Backup,
+    Neither,
 }
 
 // Where the value stands: its pack and its stretch there, and its payload's total offset.
@@ -37,7 +39,7 @@ pub enum Unfound {
     Absent,
 }
 
-// Where a value stands in its pack, and its payload's total offset in two's complement. It stays this small so that the loops keep it in registers.
+// Where a value stands in its pack, and its payload's total offset in two's complement. In 32 bits each, since the loops carry it along.
 #[derive(Clone, Copy, Debug, PartialEq, Eq)]
 pub struct Spot {
     pub start: u32,
@@ -52,19 +54,18 @@ pub struct Inside {
     pub first: Option<Spot>,
 }
 
-// Where a payload has its value, if its tag is the one that is sought. Its part stands at `base` of the pack.
-fn spot_of(wanted: Option<u32>, total: u32, base: usize, element: Element) -> Option<Spot>
-    requires { base + (element.value.start + element.value.len) ≤ 32768 }
-    ensures { result ≡ of_tag wanted element.tag (base + element.value.start) element.value.len total }
+// What was found before, or else where a payload that is sought has its value. Few payloads are, so this stays out of the loops over them; there it pays.
+#[inline(never)]
+fn or_spot(first: Option<Spot>, total: u32, base: usize, value: Stretch) -> Option<Spot>
+    requires { base + (value.start + value.len) ≤ 32768 }
+    ensures { result ≡ option_or first (Some (spot_of (base + value.start) value.len total)) }
 {
-    if wanted == Some(element.tag) {
-        return Some(Spot {
-            start: (base + element.value.start) as u32,
-            len: element.value.len as u32,
-            total,
-        });
-    }
-    None
+    let spot = Spot {
+        start: (base + value.start) as u32,
+        len: value.len as u32,
+        total,
+    };
+    first.or(Some(spot))
 }
 
 // The payloads of the inside of a Sync, which stands at `base` of the pack and gives them their total offset, where `used` items and payloads came before.
@@ -82,13 +83,16 @@ fn seek_inside(
     let mut count = used;
     let mut at: usize = 0;
     while at < q.len() {
-        let element = match pack_item::inner_at(q, at, count) {
-            Ok(element) => element,
+        match pack_item::inner_at(q, at, count) {
             Err(why) => return Err(why.at(base + at)),
-        };
-        first = first.or(spot_of(wanted, total, base, element));
-        count += 1;
-        at = element.value.start + element.value.len;
+            Ok(Element { tag, value }) => {
+                if wanted == Some(tag) {
+                    first = or_spot(first, total, base, value);
+                }
+                count += 1;
+                at = value.start + value.len;
+            }
+        }
     }
     Ok(Inside { count, first })
 }
@@ -116,10 +120,12 @@ fn seek_items(
                 }
                 return Err(Refusal::Crc.at(at));
             }
-            Ok(Step::Plain(element)) => {
-                first = first.or(spot_of(wanted, total, 0, element));
+            Ok(Step::Plain(Element { tag, value })) => {
+                if wanted == Some(tag) {
+                    first = or_spot(first, total, 0, value);
+                }
                 n += 1;
-                at = element.value.start + element.value.len;
+                at = value.start + value.len;
             }
             Ok(Step::Open(value)) => {
                 let base = value.start + 4;
@@ -211,6 +217,7 @@ pub fn part<'a>(main: &'a [u8], backup: &'a [u8], found: Result<Found, Unfound>)
     match found.from {
         Mark::Main => pack_value::stretch(main, found.value),
         Mark::Backup => pack_value::stretch(backup, found.value),
+        Mark::Neither => &main[0..0],
     }
 }
 

@@ -273,9 +273,9 @@ pub fn apply(kind: u32, value: &[u8], table: &mut [Object]) -> Result<usize, Ref
 pub fn clear(element: u32, table: &mut [Object]) -> Result<usize, Refused>
     ensures { Applied (clear element) table.old result table.new }
 {
-    let mut copy = Table::empty();
-    copy.load(&*table)?;
-    let Some(at) = copy.slot(element) else {
+    let mut judged = Table::empty();
+    judged.load(&*table)?;
+    let Some(at) = judged.slot(element) else {
         return Err(Refusal::Unknown.at(0));
     };
     table[at] = Object::default();

@@ -79,9 +79,9 @@ pub fn inner_at(q: &[u8], at: usize, used: usize) -> Result<Element, Refusal>
     requires { at ≤ length q.now }
     ensures { result ≡ inner_at q.now at used }
 {
-    if let Some(element) = look(q, at) {
+    if let Some(Element { value, tag }) = look(q, at) {
         if used < ITEM_CAP {
-            return Ok(element);
+            return Ok(Element { value, tag });
         }
     }
     let element = payload_at(q, at)?;
@@ -94,7 +94,8 @@ pub fn inner_at(q: &[u8], at: usize, used: usize) -> Result<Element, Refusal>
     Ok(element)
 }
 
-// What a payload of the pack is: PLACE, COUNT, own content.
+// What a payload of the pack is: PLACE, COUNT, own content. Few payloads come to this, so it stays out of the loops over items; there it pays.
+#[inline(never)]
 fn judge(s: &[u8], used: usize, element: Element) -> Result<Step, Refusal>
     requires { element.value.start + element.value.len ≤ length s.now }
     ensures { result ≡ judged s.now used element.tag element.value.start element.value.len }
@@ -125,14 +126,16 @@ fn judge(s: &[u8], used: usize, element: Element) -> Result<Step, Refusal>
     Ok(Step::Plain(element))
 }
 
-// What stands at `at` of the pack, where `used` items and payloads came before.
+// What stands at `at` of the pack, where `used` items and payloads came before. Each loop over items has its own copy of this: as a call it took half as
+// long again. An element's fields are taken apart where they are handed on, so that they stay in registers.
+#[inline(always)]
 pub fn item_at(s: &[u8], at: usize, used: usize) -> Result<Step, Refusal>
     requires { at ≤ length s.now }
     ensures { result ≡ item_at s.now at used }
 {
-    if let Some(element) = look(s, at) {
+    if let Some(Element { value, tag }) = look(s, at) {
         if used < ITEM_CAP {
-            return Ok(Step::Plain(element));
+            return Ok(Step::Plain(Element { value, tag }));
         }
     }
     judge(s, used, payload_at(s, at)?)

@@ -125,10 +125,11 @@ fn read_items(
                 }
                 return Err(Refusal::Crc.at(at));
             }
-            Ok(Step::Plain(element)) => {
+            Ok(Step::Plain(Element { value, tag })) => {
+                let element = Element { value, tag };
                 items[count] = Item::Single(payload(maps, total, 0, at, element));
                 count += 1;
-                at = element.value.start + element.value.len;
+                at = value.start + value.len;
             }
             Ok(Step::Open(value)) => {
                 let base = value.start + 4;
@@ -169,6 +170,15 @@ pub fn open(pack: &[u8], maps: &mut Mappings) -> Result<Opening, Refused>
     })
 }
 
+// Empties the items and the mappings of a pack that is refused. It stays out of the reading, which would keep room for new items and blank it at each call.
+#[inline(never)]
+fn clear(items: &mut [Item; 64], maps: &mut Mappings)
+    ensures { (items.new ≡ replicate item_cap blank) × None maps.new }
+{
+    *items = blanks();
+    *maps = Mappings::none();
+}
+
 // The reading of a pack, its items and inner payloads in `items`, which come blank, and its mappings, which come with none. So they are after a refusal.
 pub fn read_into(
     pack: &[u8],
@@ -181,8 +191,7 @@ pub fn read_into(
     let opening = open(pack, &mut *maps)?;
     let found = read_items(pack, opening, &*maps, &mut *items);
     if found.is_err() {
-        *items = blanks();
-        *maps = Mappings::none();
+        clear(&mut *items, &mut *maps);
     }
     found
 }

@@ -1,9 +1,13 @@
 -- The rows of a reading: each has eight numbers, what fills up the places changes none, and how the code makes one.
-use mathlib.Core.Path.{◌≡◌, refl, sym, ap}
+use mathlib.Core.Path.{◌≡◌, refl, sym, ap, ◌∙◌}
 use mathlib.Core.List.{List, [], ◌∷◌, ◌++◌}
-use Prim.Native.Nat.{ℕ, ◌*◌}
+use Prim.Native.Nat.{ℕ, suc, ◌+◌, ◌*◌, ◌<◌, ◌≤◌}
 use native.Mathlib.Omega.{arith}
-use lib.ListN.{length, get_or, replicate, length-append}
+use lib.ListN.{length, get_or, set, drop, replicate, length-append}
+use lib.Seq.{drop-cons}
+use Rattle.std.proofs.Math.ListN.{drop_of_length-le}
+use Rattle.runs.specs.Over.{over, Wrote}
+use Rattle.runs.proofs.Over.{stores_at}
 use Rattle.numbers.specs.Big.{extended}
 use Rattle.pack.specs.Made.{made}
 use Rattle.pack.specs.declared.Name.{Name}
@@ -32,6 +36,40 @@ unfolding made
 length_rows places [] = refl
 length_rows places (w ∷ ws) =
     omega (arith, length-append (item_row places w) (made (item_row places) ws), item_eight places w, length_rows places ws)
+
+-- A STORE
+
+-- the numbers of a list from i on, the first of them apart
+apart : (row : List ℕ) (i : ℕ) {rest : List ℕ} → i < length row → drop (suc i) row ≡ rest → drop i row ≡ get_or row i 0 ∷ rest
+apart row i h e = drop-cons row i 0 h ∙ ap (λ (l : List ℕ). get_or row i 0 ∷ l) e
+
+eight : (row : List ℕ)
+    → length row ≡ 8
+    → get_or row 0 0 ∷ get_or row 1 0 ∷ get_or row 2 0 ∷ get_or row 3 0 ∷ get_or row 4 0 ∷ get_or row 5 0 ∷ get_or row 6 0 ∷ get_or row 7 0 ∷ [] ≡ row
+eight row e =
+    sym (
+    apart row 0 (omega (arith, e))
+    (apart row 1 (omega (arith, e))
+    (apart row 2 (omega (arith, e))
+    (apart row 3 (omega (arith, e))
+    (apart row 4 (omega (arith, e))
+    (apart row 5 (omega (arith, e))
+    (apart row 6 (omega (arith, e))
+    (apart row 7 (omega (arith, e)) (drop_of_length-le row {i = 8} (omega (arith, e))))))))))
+    )
+
+-- the numbers of a row, stored one after the other
+pub row_stored : (xs : List ℕ) (at : ℕ) (row : List ℕ)
+    → length row ≡ 8
+    → at + 8 ≤ length xs
+    → Wrote xs at row (at + 8)
+    (set (set (set (set (set (set (set (set xs at (get_or row 0 0)) (at + 1) (get_or row 1 0)) (at + 2) (get_or row 2 0)) (at + 3) (get_or row 3 0)) (at + 4) (get_or row 4 0)) (at + 5) (get_or row 5 0)) (at + 6) (get_or row 6 0)) (at + 7) (get_or row 7 0))
+row_stored xs at row e room =
+    record {
+      next = ap (λ (n : ℕ). at + n) (sym e);
+      buffer = stores_at xs at (get_or row 0 0) (get_or row 1 0 ∷ get_or row 2 0 ∷ get_or row 3 0 ∷ get_or row 4 0 ∷ get_or row 5 0 ∷ get_or row 6 0 ∷ get_or row 7 0 ∷ []) room
+          ∙ ap (over xs at) (eight row e);
+    }
 
 -- THE PLACES
 

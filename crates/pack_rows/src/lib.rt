@@ -87,15 +87,20 @@ fn item_row(places: &[u32; 32], item: Item) -> [u32; 8]
     }
 }
 
-// Stores a row and answers the place after it. It is `runs::copy` for numbers of 32 bits: `Wrote` speaks of lists of numbers, which the elements of a type
-// parameter are not.
-fn put_row(out: &mut [u32], at: usize, row: &[u32]) -> usize
-    requires { at + length row.now ≤ length out.old }
-    ensures { Wrote out.old at row.now result out.new }
+// Stores a row and answers the place after it, number by number: a row that is copied as a whole is laid down in memory first.
+fn put_row(out: &mut [u32], at: usize, row: [u32; 8]) -> usize
+    requires { at + 8 ≤ length out.old }
+    ensures { Wrote out.old at row result out.new }
 {
-    let next = at + row.len();
-    out[at..next].copy_from_slice(row);
-    next
+    out[at] = row[0];
+    out[at + 1] = row[1];
+    out[at + 2] = row[2];
+    out[at + 3] = row[3];
+    out[at + 4] = row[4];
+    out[at + 5] = row[5];
+    out[at + 6] = row[6];
+    out[at + 7] = row[7];
+    at + 8
 }
 
 // Reads a pack into `out`: the pack's row, then one for each item and inner payload in order. Answers how many numbers these are, or the refusal
@@ -109,9 +114,9 @@ pub fn rows(pack: &[u8], out: &mut [u32]) -> Result<usize, Refused>
     if out.len() < 8 * (1 + found.count) {
         return Err(Refusal::NoRoom.at(0));
     }
-    let mut next = put_row(&mut *out, 0, &pack_row(found));
+    let mut next = put_row(&mut *out, 0, pack_row(found));
     for i in 0..found.count {
-        next = put_row(&mut *out, next, &item_row(&maps.places, items[i]));
+        next = put_row(&mut *out, next, item_row(&maps.places, items[i]));
     }
     Ok(next)
 }

@@ -4,7 +4,7 @@ use mathlib.Core.List.{List, [], ◌∷◌, map}
 use mathlib.Core.Bool.{Bool, true, false, cond}
 use Prim.Native.Nat.{ℕ, suc, ◌≤◌, ◌<◌}
 use native.Mathlib.Omega.{arith}
-use lib.ListN.{length, get_or, set, drop}
+use lib.ListN.{length, get_or, set, drop, drop_of_length-le}
 use lib.Seq.{drop-cons}
 use Rattle.runs.specs.Those.{Each}
 use Rattle.runs.specs.Finding.{count, first, change, fill, place}
@@ -83,3 +83,7 @@ module _ {A : Type 0} (p : A → Bool) where
   pub place_on : (d : A) (xs : List A) (i : ℕ) → i < length xs → p (get_or xs i d) ≡ false → place p (drop i xs) ≡ suc (place p (drop (suc i) xs))
   unfolding place
   place_on d xs i h e = rw (drop-cons xs i d, e)
+
+  pub place_done : (xs : List A) (i : ℕ) → length xs ≤ i → place p (drop i xs) ≡ 0
+  unfolding place
+  place_done xs i h = rw (drop_of_length-le xs h)

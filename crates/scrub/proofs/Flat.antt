@@ -34,7 +34,7 @@ use Rattle.scrub_ops.specs.Ops.{op_bytes, some_bytes, ops_bytes, SomeFits}
 use Rattle.runs.proofs.Stands.{part_length}
 use Rattle.scrub_ops.proofs.Ops.{put_size, open_size}
 use Rattle.std.specs.Prelude.{Option, Some, None}
-use Rattle.scrub_plan.specs.Planned.{sized, item_plan, Planned, joined}
+use Rattle.scrub_plan.specs.Planned.{written, sized, item_plan, Planned, joined}
 
 -- the plan by a tag for each name that stays
 abbrev pub tag_item : (Name → Option ℕ) → Item → Option ℕ
@@ -62,12 +62,15 @@ module _ (s : List ℕ) (labels : List (List ℕ)) (sh : Sheet) (ms : List Entry
 
   -- the new tag of a name that is kept
   abbrev pub new_tag : Name → Option ℕ
-  new_tag n = cond (keeps sh (meant_name labels n)) (Some (tag_for ms (meant_name labels n))) None
+  new_tag n = cond (keeps sh (meant_name labels n)) (written (tag_for ms (meant_name labels n))) None
 
-  -- a payload whose value lies in the pack, and whose tag can be written if it is kept
+  -- a payload whose value lies in the pack, and which has a tag that can be written if it is kept
   pub record Lies (x : Payload) : Type 0 where
     pub ends : x.value_start + x.value_len ≤ length s
-    pub tagged : keeps sh (meant_name labels x.name) ≡ true → tag_for ms (meant_name labels x.name) < 128 ^ 4
+    pub tagged : keeps sh (meant_name labels x.name) ≡ true → (0 < tag_for ms (meant_name labels x.name)) × (tag_for ms (meant_name labels x.name) < 128 ^ 4)
+
+  tag_some : (x : Payload) → Lies x → keeps sh (meant_name labels x.name) ≡ true → tag_for ms (meant_name labels x.name) ≡ 0 → ⊥
+  tag_some x h e z = let g = h.tagged e in omega arith
 
   abbrev pub ItemLies : Item → Type 0
   ItemLies (I.Single x) = Lies x
@@ -102,9 +105,10 @@ module _ (s : List ℕ) (labels : List (List ℕ)) (sh : Sheet) (ms : List Entry
       let e = element t (shortest (length (said x).value)) (said x).value in
       let pb = bytes_of xs in
       split (keeps sh (meant_name labels x.name))
-      (λ a. record {
-        bytes = rw a (ap₂ (λ (u v : List ℕ). u ++ v) (put_bytes x h.0) i.bytes ∙ sym (append_assoc e pb (ops_bytes s (plan_by new_tag rest).ops)));
-        size = rw a (let n = put_sized x h.0 in let m = length-append e pb in let z = i.size in omega arith);
+      (λ a. let nz = tag_some x h.0 a in
+      record {
+        bytes = rw (a, ne_eqb t 0 nz) (ap₂ (λ (u v : List ℕ). u ++ v) (put_bytes x h.0) i.bytes ∙ sym (append_assoc e pb (ops_bytes s (plan_by new_tag rest).ops)));
+        size = rw (a, ne_eqb t 0 nz) (let n = put_sized x h.0 in let m = length-append e pb in let z = i.size in omega arith);
       })
       (λ a. record { bytes = rw a i.bytes; size = rw a i.size })
 
@@ -133,10 +137,16 @@ module _ (s : List ℕ) (labels : List (List ℕ)) (sh : Sheet) (ms : List Entry
       let z : n ≡ 0 → ⊥ = λ x. omega arith in
       rw (ne_eqb n 0 z) (ap₂ (λ (m : ℕ) (l : List ℕ). op_bytes s (Open m o d) ++ l) e h ∙ open_bytes o d p (chunks_bytes (map (as_chunk ms) r)))
 
+  -- a payload outside a Sync leaves none inside
+  none_inside : (x : Payload) (t : Option ℕ) (n : ℕ) → (item_plan (I.Single x) t n).inner ≡ 0
+  unfolding item_plan
+  none_inside x None n = refl
+  none_inside x (Some t) n = refl
+
   no_inner : (ps : List Part) → (plan_by new_tag (slots ps)).inner ≡ 0
   unfolding plan_by slots item_plan
   no_inner [] = refl
-  no_inner (one x ∷ ps) = split (keeps sh (meant_name labels x.name)) (λ a. rw a) (λ a. rw a)
+  no_inner (one x ∷ ps) = none_inside x (new_tag x.name) (plan_by new_tag (slots ps)).inner
   no_inner (many h xs ∷ ps) = split (eqb (plan_by new_tag (map (λ (x : Payload). I.Inner x) xs ++ slots ps)).inner 0) (λ a. rw a) (λ a. rw a)
 
   two_long : length (tag_bytes 2) ≡ 1
@@ -153,8 +163,9 @@ module _ (s : List ℕ) (labels : List (List ℕ)) (sh : Sheet) (ms : List Entry
   flat_items [] h = refl
   flat_items (one x ∷ ps) h =
       let i = flat_items ps h.1 in
+      let t = tag_for ms (meant_name labels x.name) in
       split (keeps sh (meant_name labels x.name))
-      (λ a. rw a (ap₂ (λ (u v : List ℕ). u ++ v) (put_bytes x h.0) i))
+      (λ a. rw (a, ne_eqb t 0 (tag_some x h.0 a)) (ap₂ (λ (u v : List ℕ). u ++ v) (put_bytes x h.0) i))
       (λ a. rw a i)
   flat_items (many hd xs ∷ ps) h =
       let i = inside_flat xs (slots ps) h.0.1 in
@@ -212,8 +223,10 @@ module _ (s : List ℕ) (labels : List (List ℕ)) (sh : Sheet) (ms : List Entry
 
   op_fits : (it : Item) (n : ℕ) → ItemLies it → n < 3000000 → SomeFits s (item_plan it (tag_item new_tag it) n).op
   unfolding item_plan
-  op_fits (I.Single x) n h b = split (keeps sh (meant_name labels x.name)) (λ a. rw a (h.tagged a, h.ends)) (λ a. rw a tt)
-  op_fits (I.Inner x) n h b = split (keeps sh (meant_name labels x.name)) (λ a. rw a (h.tagged a, h.ends)) (λ a. rw a tt)
+  op_fits (I.Single x) n h b =
+      split (keeps sh (meant_name labels x.name)) (λ a. rw (a, ne_eqb (tag_for ms (meant_name labels x.name)) 0 (tag_some x h a)) ((h.tagged a).1, h.ends)) (λ a. rw a tt)
+  op_fits (I.Inner x) n h b =
+      split (keeps sh (meant_name labels x.name)) (λ a. rw (a, ne_eqb (tag_for ms (meant_name labels x.name)) 0 (tag_some x h a)) ((h.tagged a).1, h.ends)) (λ a. rw a tt)
   op_fits (I.Sync hd) n h b = split (eqb n 0) (λ a. rw a tt) (λ a. rw a (let z : 4 + n < 2 ^ 32 = omega arith in z))
 
   -- the writes can be made

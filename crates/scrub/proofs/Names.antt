@@ -29,7 +29,7 @@ use Rattle.scrub_kept.proofs.Listed.{never, listed_here, listed_more}
 use Rattle.scrub_kept.proofs.Labels.{LabelsApart}
 use Rattle.std.specs.Prelude.{Option, Some, None}
 use Rattle.scrub_names.specs.Marks.{mark_name, mark_item, marks_of, kept_numbers, kept_labels}
-use Rattle.scrub_plan.specs.Planned.{tag_of, item_plan, Planned, joined, planned}
+use Rattle.scrub_plan.specs.Planned.{written, tag_of, item_plan, Planned, joined, planned}
 use Rattle.scrub.proofs.Flat.{tag_item, plan_by, new_tag}
 
 -- a label is one of so many mappings
@@ -179,7 +179,7 @@ module _ (s : List ℕ) (labels : List (List ℕ)) (sh : Sheet) (flags : List Bo
     mark_tag : (n : Name) → Below (length labels) n → tag_of index (mark_name flags sh n) ≡ new_tag s labels sh ms n
     unfolding mark_name tag_for
     mark_tag (N.Label i) h =
-        rw (right i h) (split (keeps sh (label (get_or labels i []))) (λ e. rw e (ap Some (given i h))) (λ e. rw e))
+        rw (right i h) (split (keeps sh (label (get_or labels i []))) (λ e. rw e (ap written (given i h))) (λ e. rw e))
     mark_tag (N.Number t) h = split (keeps sh (number t)) (λ e. rw e) (λ e. rw e)
 
     item_tag : (it : Item) → ItemBelow (length labels) it → tag_of index (mark_item flags sh it) ≡ tag_item (new_tag s labels sh ms) it

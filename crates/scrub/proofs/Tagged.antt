@@ -30,14 +30,14 @@ use Rattle.scrub_kept.proofs.Mappings.{entries_new}
 use Rattle.scrub.proofs.Flat.{Lies, ItemLies}
 use Rattle.scrub.proofs.Names.{sync_names}
 
--- a tag that can be written
+-- a tag that can be written, and that is none of a payload that goes
 abbrev pub Writable : ℕ → Type 0
-Writable t = t < 128 ^ 4
+Writable t = (0 < t) × (t < 128 ^ 4)
 
 pub label_writable : (ns : List SaidName) (l : List ℕ) → length ns ≤ 64 → listed l (labels_in [] ns) ≡ true → Writable (tag_for (entries ns) (label l))
 label_writable ns l few h =
     let range : (m : Entry) → (64 ≤ m.tag) × (m.tag ≤ 127) × (among m.tag (numbers_in ns) ≡ false) → Writable m.tag =
-    λ m q. let y = q.1 in let z : m.tag < 128 ^ 4 = omega arith in z in
+    λ m q. let x = q.0 in let y = q.1 in (omega arith, omega arith) in
     label_tag Writable l (entries ns)
     (ap (listed l) (assigned_labels (numbers_in ns) (labels_in [] ns)) ∙ h)
     (each_map range (entries ns) (entries_new ns few))
@@ -81,7 +81,7 @@ module _ (s : List ℕ) (labels : List (List ℕ)) (sh : Sheet) where
     name_writable : (x : Name) → B.NameFits n x → Named (numbers_in ns) (labels_in [] ns) (meant_name labels x) → Writable (tag_for (entries ns) (meant_name labels x))
     unfolding tag_for
     name_writable (N.Label i) f h = label_writable ns (get_or labels i []) few h
-    name_writable (N.Number t) f h = f.1
+    name_writable (N.Number t) f h = let x = f.0 in (omega arith, f.1)
 
     abbrev Rule : SaidName → Type 0
     Rule m = Named (numbers_in ns) (labels_in [] ns) m

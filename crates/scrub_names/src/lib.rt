@@ -1,6 +1,6 @@
 #![tactic(auto)]
 // What a sheet keeps of a reading, and the tags that kept labels get.
-ghost use Rattle.std.specs.Prelude.{◌≡◌, false, ℕ, List, [], ◌∷◌, ◌++◌, ◌+◌, ◌<◌, ◌≤◌, Option, IfSome, length, take, replicate};
+ghost use Rattle.std.specs.Prelude.{◌≡◌, false, ℕ, List, [], ◌∷◌, ◌++◌, ◌+◌, ◌<◌, ◌≤◌, Option, IfSome, length, take, get_or, replicate};
 ghost use Rattle.runs.specs.Those.{Each};
 ghost use Rattle.pack.specs.Fixed.{item_cap, mapping_cap};
 ghost use Rattle.pack.specs.Slots.{padded};
@@ -65,6 +65,16 @@ fn mark_item(sheet: &Sheet<'_>, flags: &[bool; 32], item: Item) -> Option<Name>
     }
 }
 
+// Where the label of the mapping `i` stands, 0 where no place is told.
+fn place_of(places: &[u32], i: usize) -> u32
+    ensures { result ≡ get_or places.now i 0 }
+{
+    if i < places.len() {
+        return places[i];
+    }
+    0
+}
+
 // The first clear mark from `from` on, or the place after the marks.
 fn clear_from(taken: &[bool; 64], from: usize) -> usize
     ensures place { result ≡ clear_at taken.now from }
@@ -127,9 +137,9 @@ impl Names {
     }
 
     // The mappings of the labels that stay, in their order, into `mappings`, which comes empty. Each gets as its tag the smallest number from 64 up that no
-    // kept payload has and no earlier label took.
+    // kept payload has and no earlier label took. A label that has no place stands at 0.
     pub fn assign(&self, places: &[u32], mappings: &mut [Mapping; 64])
-        requires { (self.now.labels ≤ 64) × Each (λ (i : ℕ). i < length places.now) (take self.now.labels self.now.order) × (mappings.old ≡ replicate 64 unmapped) }
+        requires { (self.now.labels ≤ 64) × (mappings.old ≡ replicate 64 unmapped) }
         ensures { mappings.new ≡ padded item_cap unmapped (mapped places.now (take self.now.labels self.now.order) (given self.now.taken 0 self.now.labels)) }
     {
         let mut next: usize = 0;
@@ -138,7 +148,7 @@ impl Names {
             let free = clear_from(&self.taken, next);
             mappings[k] = Mapping {
                 index,
-                place: places[index as usize],
+                place: place_of(places, index as usize),
                 tag: 64 + free as u32,
             };
             next = free + 1;

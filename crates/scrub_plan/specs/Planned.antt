@@ -12,11 +12,15 @@ use Rattle.scrub_ops.specs.declared.Op.TheVariants.{Put, Open}
 use Rattle.scrub_ops.specs.declared.Op.{Op}
 use Rattle.scrub_plan.specs.declared.ItemPlan.{ItemPlan}
 
--- the tag that an item with this mark is written with, if it stays; `index` has the new tags of labels
+-- nothing is written with a tag of 0
+abbrev pub written : ℕ → Option ℕ
+written t = cond (eqb t 0) None (Some t)
+
+-- the tag that an item with this mark is written with, if it stays; `index` has the new tags of labels, 0 where a label goes
 abbrev pub tag_of : List ℕ → Option Name → Option ℕ
 tag_of index None = None
-tag_of index (Some (N.Number t)) = Some t
-tag_of index (Some (N.Label i)) = Some (get_or index i 0)
+tag_of index (Some (N.Number t)) = written t
+tag_of index (Some (N.Label i)) = written (get_or index i 0)
 
 -- tag, length and value
 abbrev pub sized : ℕ → ℕ → ℕ

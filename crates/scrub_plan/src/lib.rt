@@ -2,7 +2,7 @@
 // The plan pass: from the items of a reading and the names that stay, the writes and their size.
 ghost use Rattle.std.specs.Prelude.{◌≡◌, ◌+◌, ◌≤◌, None, length, replicate};
 ghost use Rattle.runs.specs.Those.{Each};
-ghost use Rattle.scrub_plan.specs.Planned.{tag_of, sized, item_plan, nothing, Plans, ItemSmall, MarkFits};
+ghost use Rattle.scrub_plan.specs.Planned.{written, tag_of, sized, item_plan, nothing, Plans, ItemSmall, MarkFits};
 ghost use Rattle.pack.specs.declared.Item.TheVariants as I;
 
 use pack::{Head, Item, Name, Payload};
@@ -16,15 +16,25 @@ pub struct ItemPlan {
     pub size: u32,
 }
 
-// The tag that an item is written with, if its name stays. `index` has the new tags of labels.
+// The tag, but for 0, with which nothing is written.
+fn written(tag: u32) -> Option<u32>
+    ensures { result ≡ written tag }
+{
+    if tag == 0 {
+        return None;
+    }
+    Some(tag)
+}
+
+// The tag that an item is written with, if its name stays. `index` has the new tags of labels, 0 where a label goes.
 fn tag_of(mark: Option<Name>, index: &[u32; 32]) -> Option<u32>
     requires { MarkFits mark }
     ensures { result ≡ tag_of index.now mark }
 {
     match mark {
         None => None,
-        Some(Name::Number(t)) => Some(t),
-        Some(Name::Label(i)) => Some(index[i as usize]),
+        Some(Name::Number(t)) => written(t),
+        Some(Name::Label(i)) => written(index[i as usize]),
     }
 }
 

@@ -3,11 +3,11 @@ use mathlib.Core.Path.{◌≡◌, sym, ap, ◌∙◌}
 use Rattle.refusals.specs.Outcomes.{Outcome, fine, refused}
 use mathlib.Core.List.{List}
 use mathlib.Core.Bool.{true, ◌&&◌}
-use Prim.Native.Nat.{ℕ, ◌+◌, ◌*◌}
+use Prim.Native.Nat.{ℕ, ◌+◌, ◌*◌, ◌≤◌}
 use native.Mathlib.Omega.{arith}
 use lib.ListN.{length}
 use lib.Dec.{leb, eqb}
-use borrow.Author.Tests.{eqb-true}
+use borrow.Author.Tests.{eqb-true, leb-true}
 use Rattle.runs.proofs.Bools.{and_both}
 use Rattle.runs.proofs.Cases.{split}
 use Rattle.numbers.specs.Big.{big_at}
@@ -27,6 +27,15 @@ header_counts s h =
     let d = and_both (eqb (big_at s 2 2) 8) _ c.1 in
     let e = and_both (eqb (big_at s 6 2) (8 + 16 * big_at s 0 2)) _ d.1 in
     sym (eqb-true (length s) (8 + 16 * big_at s 0 2 + 4 * big_at s 4 2) e.1)
+
+-- nor more numbers than a sheet may have
+pub header_few : (s : List ℕ) → header_good s ≡ true → big_at s 4 2 ≤ sheet_cap
+unfolding header_good
+header_few s h =
+    let a = and_both (leb 8 (length s)) _ h in
+    let b = and_both (leb (big_at s 0 2) sheet_cap) _ a.1 in
+    let c = and_both (leb (big_at s 4 2) sheet_cap) _ b.1 in
+    leb-true (big_at s 4 2) sheet_cap c.0
 
 -- what is asked is the sheet that the bytes come to, or they come to none
 unfoldable comes : List ℕ → Result Asked Refused → Outcome Sheet

@@ -3,9 +3,11 @@
 ghost use Rattle.std.specs.Prelude.{◌≡◌, false, ℕ, ◌+◌, ◌*◌, ◌<◌, ◌≤◌, length, take, drop, get_or};
 ghost use Rattle.runs.specs.Same.{among, listed};
 ghost use Rattle.pack.specs.Said.{label, number};
-ghost use Rattle.scrub_kept.specs.Sheet.{labels_at, numbers_at, labels_good, numbers_good, header_good, keeps_all, sheet_checked, sheet_of};
+ghost use Rattle.pack.specs.Slots.{padded};
+ghost use Rattle.scrub_kept.specs.Sheet.{sheet_cap, labels_at, numbers_at, labels_good, numbers_good, header_good, keeps_all, sheet_checked, sheet_of};
 ghost use Rattle.scrub_kept.specs.Kept.{keeps};
 ghost use Rattle.scrub_sheet.specs.Asked.{these_asked, sheet_asked, asks, EntriesThere, Short};
+ghost use Rattle.scrub_sheet.specs.Marked.{Marked};
 ghost use Rattle.refusals.specs.Outcomes.{answered};
 
 use refusals::{Refusal, Refused};
@@ -13,15 +15,15 @@ use std::marker::Model;
 
 // What a sheet asks for: all, nothing, or its labels and numbers by their counts.
 #[derive(Clone, Copy)]
-enum Asked {
+pub enum Asked {
     All,
     Nothing,
     These { labels: usize, numbers: usize },
 }
 
-// A sheet that was judged good. Its bytes stay where they are. Most tags have one byte, so the numbers below 128 are sought once, and not for each
+// A sheet with what it asks for. Its bytes stay where they are. Most tags have one byte, so the numbers below 128 are sought once, and not for each
 // payload: `short` says of each whether it is kept.
-#[derive(Drop)]
+#[derive(Clone, Drop)]
 pub struct Sheet<'a> {
     bytes: &'a [u8],
     asked: Asked,
@@ -105,25 +107,66 @@ fn labels_good(s: &[u8], at: usize, count: usize) -> bool
     true
 }
 
-// Each number from `at` on is from 4 to 268,435,455, and none repeats.
-fn numbers_good(s: &[u8], at: usize, count: usize) -> bool
-    requires { at + 4 * count ≤ length s.now }
-    ensures { result ≡ numbers_good (numbers_at s.now at count) }
+// The `count` numbers of `s` from `at` on, read once: each is held against all that come after it.
+fn numbers_from(s: &[u8], at: usize, count: usize) -> [u32; 32]
+    requires { (at + 4 * count ≤ length s.now) × (count ≤ sheet_cap) }
+    ensures { result ≡ padded sheet_cap 0 (numbers_at s.now at count) }
 {
+    let mut found = [0; 32];
     for k in 0..count {
-        let here = at + 4 * k;
-        let n = numbers::be32(s, here);
+        found[k] = numbers::be32(s, at + 4 * k);
+    }
+    found
+}
+
+// Whether the number is one of these.
+fn is_among(n: u32, others: &[u32]) -> bool
+    ensures { result ≡ among n others.now }
+{
+    for other in others {
+        if *other == n {
+            return true;
+        }
+    }
+    false
+}
+
+// Whether the number is one of these. `seen` has a mark for the remainder by 64 of each of them, so that most need not be looked through.
+fn repeats(n: u32, others: &[u32], seen: u64) -> bool
+    requires { Marked others.now seen }
+    ensures { result ≡ among n others.now }
+{
+    seen & (1 << (n % 64)) != 0 && is_among(n, others)
+}
+
+// Each of these numbers is from 4 to 268,435,455, and none repeats. The last comes first.
+fn all_good(them: &[u32]) -> bool
+    ensures { result ≡ numbers_good them.now }
+{
+    let mut seen: u64 = 0;
+    for k in (0..them.len()).rev() {
+        let n = them[k];
         if n < 4 {
             return false;
         }
         if n > 268435455 {
             return false;
         }
-        if has_number(s, here + 4, count - k - 1, n) {
+        if repeats(n, &them[k + 1..], seen) {
             return false;
         }
+        seen |= 1 << (n % 64);
     }
     true
+}
+
+// Each number from `at` on is from 4 to 268,435,455, and none repeats.
+fn numbers_good(s: &[u8], at: usize, count: usize) -> bool
+    requires { (at + 4 * count ≤ length s.now) × (count ≤ sheet_cap) }
+    ensures { result ≡ numbers_good (numbers_at s.now at count) }
+{
+    let them = numbers_from(s, at, count);
+    all_good(&them[..count])
 }
 
 // The four header fields, and a length that is what they make.
@@ -193,7 +236,7 @@ fn these(s: &[u8]) -> Option<Asked>
 
 // What the bytes of a sheet ask for, or SHEET.
 #[tactic(auto, unfolding(crate::specs::Asked::sheet_asked))]
-fn asked_by(s: &[u8]) -> Result<Asked, Refused>
+pub fn asked_by(s: &[u8]) -> Result<Asked, Refused>
     ensures { result ≡ sheet_asked s.now }
 {
     if s.is_empty() {
@@ -206,7 +249,7 @@ fn asked_by(s: &[u8]) -> Result<Asked, Refused>
 }
 
 // For each number below 128 whether a sheet keeps its payloads.
-fn short_numbers(s: &[u8], asked: Asked) -> [bool; 128]
+pub fn short_numbers(s: &[u8], asked: Asked) -> [bool; 128]
     requires { EntriesThere s.now asked }
     ensures { Short (asks s.now asked) result }
 {
@@ -222,12 +265,7 @@ pub fn judge(s: &[u8]) -> Result<Sheet<'_>, Refused>
     ensures { result ≡ answered (λ x. x) (sheet_of s.now) }
 {
     let asked = asked_by(s)?;
-    let short = short_numbers(s, asked);
-    Ok(Sheet {
-        bytes: s,
-        asked,
-        short,
-    })
+    Ok(Sheet::new(s, asked))
 }
 
 // Judges a sheet alone: how many labels and numbers stand on it, or SHEET. The counts of the sheet that keeps all count no entries.
@@ -242,6 +280,20 @@ pub fn check(s: &[u8]) -> Result<usize, Refused>
 }
 
 impl<'a> Sheet<'a> {
+    // The sheet that keeps what is asked for of these bytes. They need not be judged: the entries that are counted are there, and whatever they are, they
+    // are asked.
+    pub fn new(s: &'a [u8], asked: Asked) -> Self
+        requires { EntriesThere s.now asked }
+        ensures { result ≡ asks s.now asked }
+    {
+        let short = short_numbers(s, asked);
+        Sheet {
+            bytes: s,
+            asked,
+            short,
+        }
+    }
+
     // Whether the sheet keeps the payloads of the label at `at` of the pack.
     #[tactic(auto, unfolding(runs::specs::Same::listed))]
     pub fn keeps_label(&self, p: &[u8], at: usize) -> bool

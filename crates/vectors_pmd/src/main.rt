@@ -3,9 +3,11 @@
 // says how a case is laid out; the answers are the reference implementation's.
 #![tactic(auto)]
 
+ghost use Rattle.std.specs.Prelude.{◌<◌, ◌≤◌, length, take, IfOk};
+ghost use Rattle.std.specs.Io.KnownBytes.{Consumes, IsAtEnd};
+
 use pmd::Level;
 use refusals::Refused;
-use std::alloc::Global;
 use std::io;
 use std::io::{Read, Write};
 use vectors::Hex;
@@ -14,7 +16,7 @@ use vectors::Hex;
 const SHOWN: usize = 12;
 
 // An input of more bytes than these is cut off.
-const INPUT: u64 = 65536;
+const INPUT: usize = 65536;
 
 // What the parts of a case make up at most, and the longest runs of numbers and of bytes that are lent.
 const GIVEN: usize = 132096;
@@ -43,46 +45,40 @@ fn told(to: &mut impl Write, answer: Result<usize, Refused>) -> io::Result<()> {
 }
 
 // Reads a value into a run of so many numbers.
-fn read(
-    to: &mut impl Write,
-    alloc: Global,
-    kind: u32,
-    value: &[u8],
-    room: usize,
-) -> io::Result<()> {
+fn read(to: &mut impl Write, kind: u32, value: &[u8], room: usize) -> io::Result<()> {
     if NUMBERS < room {
         return cut(to);
     }
-    let mut run = vec![in alloc; 99999u32; room]?;
+    let mut run = [99999u32; NUMBERS];
+    let run = &mut run[..room];
     let size = value.len();
     write!(to, "read kind {kind}, {size} bytes, room {room}: ")?;
-    told(to, pmd_read::pmd_read(kind, value, &mut run))?;
+    told(to, pmd_read::pmd_read(kind, value, &mut *run))?;
     for n in run.iter().take(SHOWN) {
         write!(to, " {n}")?;
     }
-    let mut bytes = vec![in alloc; 0u8; 4 * room]?;
-    let laid = vectors::laid(&run, &mut bytes);
+    let mut bytes = [0u8; 4 * NUMBERS];
+    let laid = vectors::laid(run, &mut bytes);
     writeln!(to, ", crc {:08x}", crc::crc(&bytes[0..laid]))
 }
 
 // Writes the numbers that these bytes are into a run of so many bytes.
-fn write(
-    to: &mut impl Write,
-    alloc: Global,
-    kind: u32,
-    given: &[u8],
-    room: usize,
-) -> io::Result<()> {
+fn write(to: &mut impl Write, kind: u32, given: &[u8], room: usize) -> io::Result<()> {
     if BYTES < room {
         return cut(to);
     }
-    let mut numbers = vec![in alloc; 0u32; given.len() / 4]?;
+    let mut numbers = [0u32; GIVEN / 4];
     let count = vectors::taken(given, &mut numbers);
-    let mut run = vec![in alloc; 0xEEu8; room]?;
+    let mut run = [0xEEu8; BYTES];
+    let run = &mut run[..room];
     write!(to, "write kind {kind}, {count} numbers, room {room}: ")?;
-    told(to, pmd_write::pmd_write(kind, &numbers[0..count], &mut run))?;
+    told(
+        to,
+        pmd_write::pmd_write(kind, &numbers[0..count], &mut *run),
+    )?;
+    let crc = crc::crc(run);
     let shown = run.len().min(SHOWN);
-    writeln!(to, "{}, crc {:08x}", Hex(&run[0..shown]), crc::crc(&run))
+    writeln!(to, "{}, crc {crc:08x}", Hex(&run[0..shown]))
 }
 
 fn level(to: &mut impl Write, gain: u32) -> io::Result<()> {
@@ -95,27 +91,20 @@ fn level(to: &mut impl Write, gain: u32) -> io::Result<()> {
     writeln!(to)
 }
 
-fn run(
-    to: &mut impl Write,
-    alloc: Global,
-    call: u8,
-    number: u32,
-    room: usize,
-    parts: &[u8],
-) -> io::Result<()> {
-    let mut given = vec![in alloc; 0u8; GIVEN]?;
+fn run(to: &mut impl Write, call: u8, number: u32, room: usize, parts: &[u8]) -> io::Result<()> {
+    let mut given = [0u8; GIVEN];
     let size = vectors::joined(parts, &mut given);
-    given.truncate(size);
+    let given = &given[..size];
     match call {
-        b'r' => read(to, alloc, number, &given, room),
-        b'w' => write(to, alloc, number, &given, room),
+        b'r' => read(to, number, given, room),
+        b'w' => write(to, number, given, room),
         b'g' => level(to, number),
         _ => cut(to),
     }
 }
 
 // A case without the length before it: ten bytes, the last of which is the length of its name, then the name and the parts.
-fn case(to: &mut impl Write, alloc: Global, s: &[u8]) -> io::Result<()> {
+fn case(to: &mut impl Write, s: &[u8]) -> io::Result<()> {
     let Some((head, rest)) = s.split_first_chunk::<10>() else {
         return cut(to);
     };
@@ -126,11 +115,11 @@ fn case(to: &mut impl Write, alloc: Global, s: &[u8]) -> io::Result<()> {
     write!(to, ": ")?;
     let number = numbers::be32(head, 1);
     let room = numbers::be32(head, 5) as usize;
-    run(to, alloc, head[0], number, room, parts)
+    run(to, head[0], number, room, parts)
 }
 
 // All cases, one after the other.
-fn cases(to: &mut impl Write, alloc: Global, all: &[u8]) -> io::Result<()> {
+fn cases(to: &mut impl Write, all: &[u8]) -> io::Result<()> {
     let mut n = 0usize;
     let mut left = all;
     while let Some((size, rest)) = left.split_first_chunk::<4>() {
@@ -138,15 +127,33 @@ fn cases(to: &mut impl Write, alloc: Global, all: &[u8]) -> io::Result<()> {
         let Some((first, rest)) = rest.split_at_checked(size) else {
             return cut(to);
         };
-        case(to, alloc, first)?;
+        case(to, first)?;
         left = rest;
         n += 1;
     }
     writeln!(to, "{n} cases")
 }
 
+// Fills `buf` with the bytes that come next, and answers how many there were: fewer only where the input ends. On an error `buf` holds what came before
+// it. The place is counted by hand: each read says how much it gave.
+fn read_full<R: Read>(input: &mut R, buf: &mut [u8]) -> io::Result<usize>
+    ensures upper_bound { IfOk result (λ n. n ≤ length buf.new) }
+    ensures consumed { IfOk result (λ n. Consumes (R.remaining input.old) (R.remaining input.new) (take n buf.new)) }
+    ensures ended { IfOk result (λ n. n < length buf.new → IsAtEnd (R.remaining input.new)) }
+{
+    let mut n = 0;
+    while n < buf.len() {
+        let more = input.read(&mut buf[n..])?;
+        if more == 0 {
+            return Ok(n);
+        }
+        n += more;
+    }
+    Ok(n)
+}
+
 fn main(rt: HostRuntime) -> io::Result<()> {
-    let mut all = Vec::new(rt.alloc());
-    rt.reader().take(INPUT).read_to_end(&mut all)?;
-    cases(&mut io::writer(&rt), rt.alloc(), &all)
+    let mut all = [0u8; INPUT];
+    let n = read_full(&mut rt.reader(), &mut all)?;
+    cases(&mut io::writer(&rt), &all[..n])
 }

@@ -5,8 +5,10 @@
 // pack follow; every byte of the buffer holds EE before the scrub.
 #![tactic(auto)]
 
+ghost use Rattle.std.specs.Prelude.{◌<◌, ◌≤◌, length, take, IfOk};
+ghost use Rattle.std.specs.Io.KnownBytes.{Consumes, IsAtEnd};
+
 use refusals::Refused;
-use std::alloc::Global;
 use std::io;
 use std::io::{Read, Write};
 use vectors::Hex;
@@ -58,25 +60,55 @@ fn told(to: &mut impl Write, answer: Result<usize, Refused>, out: &[u8]) -> io::
     }
 }
 
-// The next `size` bytes of the input; none, which is told, where there are not so many.
-fn part(
-    input: &mut impl Read,
-    to: &mut impl Write,
-    alloc: Global,
-    size: usize,
-) -> io::Result<Option<Vec<u8>>> {
-    let mut part = vec![in alloc; 0u8; size]?;
-    if vectors::read_full(input, &mut part)? == size {
-        return Ok(Some(part));
+// Fills `buf` with the bytes that come next, and answers how many there were: fewer only where the input ends. On an error `buf` holds what came before
+// it. The place is counted by hand: each read says how much it gave.
+fn read_full<R: Read>(input: &mut R, buf: &mut [u8]) -> io::Result<usize>
+    ensures upper_bound { IfOk result (λ n. n ≤ length buf.new) }
+    ensures consumed { IfOk result (λ n. Consumes (R.remaining input.old) (R.remaining input.new) (take n buf.new)) }
+    ensures ended { IfOk result (λ n. n < length buf.new → IsAtEnd (R.remaining input.new)) }
+{
+    let mut n = 0;
+    while n < buf.len() {
+        let more = input.read(&mut buf[n..])?;
+        if more == 0 {
+            return Ok(n);
+        }
+        n += more;
+    }
+    Ok(n)
+}
+
+// Fills `s` with the next bytes of the input, or tells that there are not so many.
+fn filled(input: &mut impl Read, to: &mut impl Write, s: &mut [u8]) -> io::Result<bool> {
+    if read_full(input, s)? == s.len() {
+        return Ok(true);
     }
     writeln!(to, "the cases end early")?;
-    Ok(None)
+    Ok(false)
+}
+
+// The rest of a case after its four numbers, which are the lengths of these parts.
+fn run(
+    input: &mut impl Read,
+    to: &mut impl Write,
+    name: &mut [u8],
+    sheet: &mut [u8],
+    pack: &mut [u8],
+    out: &mut [u8],
+) -> io::Result<bool> {
+    if !filled(input, to, name)? || !filled(input, to, sheet)? || !filled(input, to, pack)? {
+        return Ok(false);
+    }
+    to.write_all(name)?;
+    let answer = scrub::scrub(sheet, pack, out);
+    told(to, answer, out)?;
+    Ok(true)
 }
 
 // Whether a case was there and could be run.
-fn case(input: &mut impl Read, to: &mut impl Write, alloc: Global) -> io::Result<bool> {
+fn case(input: &mut impl Read, to: &mut impl Write) -> io::Result<bool> {
     let mut head = [0u8; 16];
-    let got = vectors::read_full(input, &mut head)?;
+    let got = read_full(input, &mut head)?;
     if got == 0 {
         return Ok(false);
     }
@@ -92,20 +124,18 @@ fn case(input: &mut impl Read, to: &mut impl Write, alloc: Global) -> io::Result
         writeln!(to, "a case is too long")?;
         return Ok(false);
     }
-    let Some(name) = part(input, to, alloc, name_len)? else {
-        return Ok(false);
-    };
-    let Some(sheet) = part(input, to, alloc, sheet_len)? else {
-        return Ok(false);
-    };
-    let Some(pack) = part(input, to, alloc, pack_len)? else {
-        return Ok(false);
-    };
-    let mut out = vec![in alloc; 0xEEu8; room]?;
-    to.write_all(&name)?;
-    let answer = scrub::scrub(&sheet, &pack, &mut out);
-    told(to, answer, &out)?;
-    Ok(true)
+    let mut name = [0u8; NAME];
+    let mut sheet = [0u8; SHEET];
+    let mut pack = [0u8; PACK];
+    let mut out = [0xEEu8; PACK];
+    run(
+        input,
+        to,
+        &mut name[..name_len],
+        &mut sheet[..sheet_len],
+        &mut pack[..pack_len],
+        &mut out[..room],
+    )
 }
 
 // A loop has to end, and nothing says that the input does: more cases than this are not run.
@@ -113,7 +143,7 @@ fn main(rt: HostRuntime) -> io::Result<()> {
     let mut input = rt.reader();
     let mut out = io::writer(&rt);
     for _ in 0..100000u32 {
-        if !case(&mut input, &mut out, rt.alloc())? {
+        if !case(&mut input, &mut out)? {
             break;
         }
     }

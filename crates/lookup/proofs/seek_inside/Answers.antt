@@ -2,10 +2,11 @@
 use mathlib.Core.Path.{refl, sym, ap, ◌∙◌}
 use native.Mathlib.Omega.{arith}
 use Rattle.std.specs.Prelude.{Err}
-use Rattle.std.specs.Option.{option_or}
 use Rattle.pack.proofs.Payloads.{inner_within}
+use Rattle.lookup.proofs.Steps.{or_none, or_tag}
 use Rattle.lookup.proofs.Seeking.{seek_begins, seek_on, seek_done, seek_stops}
 use Rattle.lookup.proofs.seek_inside.Goals as goal
+use Rattle.lookup.proofs.seek_inside.Goals.{then-eq, else-eq}
 
 pub loop-at-init : goal.loop-at-init
 loop-at-init c = λ tags test tells. seek_begins c.requires.0 refl
@@ -17,8 +18,8 @@ pub returns-in-Err : goal.returns-in-Err
 returns-in-Err c =
     λ tags test tells. seek_stops (c.loop-at.invariant tags test tells) c.loop-at-test.true (sym c.inner_at.ensures ∙ c.in-Err.is) (ap Err c.at.ensures)
 
-pub spot_of-requires : goal.spot_of-requires
-spot_of-requires c = let w = inner_within _ _ _ _ _ _ (sym c.inner_at.ensures ∙ c.in-Ok.is) in omega (arith, w.inside, c.requires.1)
+pub or_spot-first-requires : goal.or_spot-first-requires
+or_spot-first-requires c = let w = inner_within _ _ _ _ _ _ (sym c.inner_at.ensures ∙ c.in-Ok.is) in omega (arith, w.inside, c.requires.1)
 
 pub overflow_add-count : goal.overflow_add-count
 overflow_add-count c = let w = inner_within _ _ _ _ _ _ (sym c.inner_at.ensures ∙ c.in-Ok.is) in omega (arith, w.room)
@@ -32,7 +33,11 @@ loop-at-smaller c = let w = inner_within _ _ _ _ _ _ (sym c.inner_at.ensures ∙
 pub loop-at-preserved : goal.loop-at-preserved
 loop-at-preserved c =
     λ tags test tells.
-    seek_on (c.loop-at.invariant tags test tells) _ tells c.loop-at-test.true (sym c.inner_at.ensures ∙ c.in-Ok.is) (c.or-first.ensures ∙ ap (option_or c.loop-at.first) c.spot_of.ensures)
+    seek_on (c.loop-at.invariant tags test tells) _ tells c.loop-at-test.true (sym c.inner_at.ensures ∙ c.in-Ok.is)
+    (elim c.if-eq.branch [
+      | then-eq w ↦ or_tag _ _ _ _ _ (sym c.eq.ensures ∙ w.if-eq.true) _ (w.first-is ∙ w.or_spot-first.ensures)
+      | else-eq w ↦ or_tag _ _ _ _ _ (sym c.eq.ensures ∙ w.if-eq.false) _ (w.first-is ∙ or_none _)
+    ])
 
 pub returns : goal.returns
 returns c = λ tags test tells. seek_done (c.loop-at.invariant tags test tells) c.loop-at-test.false

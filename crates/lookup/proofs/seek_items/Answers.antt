@@ -6,7 +6,7 @@ use Prim.Native.Nat.{ℕ, ◌+◌, ◌-◌}
 use native.Mathlib.Nat.{zero-add}
 use native.Mathlib.Omega.{arith}
 use lib.ListN.{length, take, drop}
-use Rattle.std.specs.Prelude.{Ok, Err}
+use Rattle.std.specs.Prelude.{Some, Ok, Err}
 use Rattle.std.specs.Option.{option_or}
 use Rattle.std.proofs.lemmas.Result.{err_from_is_err_and}
 use Rattle.refusals.proofs.Lent.{answers, counts}
@@ -16,14 +16,15 @@ use Rattle.pack.specs.Items.{item_at, plain, opens, closes, sync_ground}
 use Rattle.pack.specs.declared.Name.{Name}
 use Rattle.pack.proofs.Payloads.{plain_fits, open_fits, close_ends}
 use Rattle.pack.proofs.Coming.{coming_ends, coming_bad, coming_good, coming_crc, sync_refused, sync_none, inside_long, inside_part}
-use Rattle.lookup.specs.Sought.{of_tag, Tells, InsideSought, sought_body}
+use Rattle.lookup.specs.Sought.{spot_of, Tells, InsideSought, sought_body}
+use Rattle.lookup.proofs.Steps.{or_none, or_tag}
 use Rattle.lookup.proofs.Seeking.{on_sum, items_begin, plain_on, open_on, counted, inside_told}
 use Rattle.lookup.proofs.seek_items.Goals as goal
-use Rattle.lookup.proofs.seek_items.Goals.{After-seek_inside, In-Ok-Close, In-Ok-Open, In-Ok-Plain}
+use Rattle.lookup.proofs.seek_items.Goals.{then-eq, else-eq, After-seek_inside, In-Ok-Close, In-Ok-Open, In-Ok-Plain}
 
 -- in each arm, what stands there
 payload : (c : In-Ok-Plain)
-    → let x = c.in-Ok-Plain.element in item_at c.args.s.now c.loop-at.at c.loop-at.n ≡ plain x.tag x.value.start x.value.len
+    → let x = c.in-Ok-Plain.field-0-0 in item_at c.args.s.now c.loop-at.at c.loop-at.n ≡ plain x.tag x.value.start x.value.len
 payload c = sym c.item_at.ensures ∙ c.in-Ok-Plain.is ∙ ap Ok c.in-Ok-Plain.field-0-is
 
 crc : (c : In-Ok-Close) → item_at c.args.s.now c.loop-at.at c.loop-at.n ≡ closes c.in-Ok-Close.value
@@ -65,8 +66,8 @@ returns-in-Ok-Close c =
     (coming_crc (c.loop-at.invariant tags test tells).coming c.loop-at-test.true (crc (goal.at.returns-in-Ok-Close c).In-Ok-Close) (sym c.crc_good.ensures ∙ c.if-crc_good.false))
     (ap Err c.at-in-Ok-Close.ensures)
 
-pub spot_of-requires : goal.spot_of-requires
-spot_of-requires c = omega (arith, (plain_fits _ _ _ _ _ _ (payload c)).inside, c.requires)
+pub or_spot-first-requires : goal.or_spot-first-requires
+or_spot-first-requires c = omega (arith, (plain_fits _ _ _ _ _ _ (payload (goal.at.or_spot-first-requires c).In-Ok-Plain)).inside, c.requires)
 
 pub overflow_add-n : goal.overflow_add-n
 overflow_add-n c = omega (arith, (plain_fits _ _ _ _ _ _ (payload (goal.at.overflow_add-n c).In-Ok-Plain)).room)
@@ -79,10 +80,14 @@ loop-at-smaller-in-Ok-Plain c = let f = plain_fits _ _ _ _ _ _ (payload (goal.at
 
 pub loop-at-preserved-in-Ok-Plain : goal.loop-at-preserved-in-Ok-Plain
 loop-at-preserved-in-Ok-Plain c =
-    let x = c.in-Ok-Plain.element in
+    let x = c.in-Ok-Plain.field-0-0 in
     λ tags test tells.
     plain_on (c.loop-at.invariant tags test tells) c.loop-at-test.true _ tells (payload (goal.at.loop-at-preserved-in-Ok-Plain c).In-Ok-Plain)
-    (c.or-first.ensures ∙ ap (option_or c.loop-at.first) (c.spot_of.ensures ∙ ap (λ (v : ℕ). of_tag c.args.wanted x.tag v x.value.len c.args.total) (zero-add x.value.start)))
+    (elim c.if-eq.branch [
+      | then-eq w ↦ or_tag _ _ _ _ _ (sym c.eq.ensures ∙ w.if-eq.true) _ (w.first-is ∙ w.or_spot-first.ensures
+          ∙ ap (λ (v : ℕ). option_or c.loop-at.first (Some (spot_of v x.value.len c.args.total))) (zero-add x.value.start))
+      | else-eq w ↦ or_tag _ _ _ _ _ (sym c.eq.ensures ∙ w.if-eq.false) _ (w.first-is ∙ or_none _)
+    ])
 
 pub overflow_add-base : goal.overflow_add-base
 overflow_add-base c = let f = open_fits _ _ _ _ _ (sync (goal.at.overflow_add-base c).In-Ok-Open) in omega (arith, f.0.inside, f.1, c.requires)
@@ -138,7 +143,7 @@ pub loop-at-preserved : goal.loop-at-preserved
 loop-at-preserved c =
     λ tags test tells.
     open_on (c.loop-at.invariant tags test tells) c.loop-at-test.true (sync (goal.at.loop-at-preserved c).In-Ok-Open)
-    (inside (goal.at.loop-at-preserved c).After-seek_inside tags test tells) c.in_ok-inside-in-Ok-Open.was c.if-inside-used.false c.or-first-in-Ok-Open.ensures
+    (inside (goal.at.loop-at-preserved c).After-seek_inside tags test tells) c.in_ok-inside-in-Ok-Open.was c.if-inside-used.false c.or-first.ensures
 
 pub returns : goal.returns
 returns c =

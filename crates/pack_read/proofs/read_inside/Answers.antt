@@ -31,7 +31,7 @@ pub payload-requires : goal.payload-requires
 payload-requires c = let w = within (goal.at.payload-requires c).In-Ok in omega (arith, w.later, w.inside, c.requires.1)
 
 pub bounds-items-n : goal.bounds-items-n
-bounds-items-n c = (within (goal.at.bounds-items-n c).In-Ok).room
+bounds-items-n c = omega (arith, (within (goal.at.bounds-items-n c).In-Ok).room)
 
 pub overflow_add-n : goal.overflow_add-n
 overflow_add-n c = let w = within (goal.at.overflow_add-n c).In-Ok in omega (arith, w.room)

@@ -15,7 +15,7 @@ read_items-found-requires c = (opened_small _ c.open.ensures c.in_ok-opening.was
 
 pub returns-then-is_err : goal.returns-then-is_err
 returns-then-is_err c =
-    outlined_failed _ c.open.ensures c.in_ok-opening.was c.read_items-found.ensures (sym c.is_err.ensures.value ∙ c.if-is_err.true) c.blanks.ensures c.none.ensures
+    outlined_failed _ c.open.ensures c.in_ok-opening.was c.read_items-found.ensures (sym c.is_err.ensures.value ∙ c.if-is_err.true) c.clear.ensures.0 c.clear.ensures.1
 
 pub returns-else-is_err : goal.returns-else-is_err
 returns-else-is_err c = outlined_held _ c.open.ensures c.in_ok-opening.was c.read_items-found.ensures (sym c.is_err.ensures.value ∙ c.if-is_err.false)

@@ -20,7 +20,7 @@ crc : (c : In-Ok-Close) → item_at c.args.s.now c.loop-at.at c.loop-at.count �
 crc c = sym c.item_at.ensures ∙ c.in-Ok-Close.is ∙ ap Ok c.in-Ok-Close.field-0-is
 
 audio : (c : In-Ok-Plain)
-    → let x = c.in-Ok-Plain.element in item_at c.args.s.now c.loop-at.at c.loop-at.count ≡ plain x.tag x.value.start x.value.len
+    → let x = c.in-Ok-Plain.field-0-0 in item_at c.args.s.now c.loop-at.at c.loop-at.count ≡ plain x.tag x.value.start x.value.len
 audio c = sym c.item_at.ensures ∙ c.in-Ok-Plain.is ∙ ap Ok c.in-Ok-Plain.field-0-is
 
 sync : (c : In-Ok-Open)
@@ -38,11 +38,11 @@ own_sum k = k.sum32-inner.ensures ∙ ap (λ (n : ℕ). sum32 k.extended-total.r
 -- a payload outside Syncs carries it
 carries : (c : After-payload)
     → let m = c.args.maps.now in
-    let x = c.in-Ok-Plain.element in
+    let x = c.in-Ok-Plain.field-0-0 in
     c.payload.result ≡ payload (ground_of (take m.count m.tags) (extended c.args.opening.offset)) c.loop-at.at x.tag x.value.start x.value.len
 carries c =
     let m = c.args.maps.now in
-    let x = c.in-Ok-Plain.element in
+    let x = c.in-Ok-Plain.field-0-0 in
     c.payload.ensures
     ∙ ap₂ (λ (p v : ℕ). payload (ground_of (take m.count m.tags) c.extended-total.result) p x.tag v x.value.len) (zero-add c.loop-at.at) (zero-add x.value.start)
     ∙ ap (λ (n : ℕ). payload (ground_of (take m.count m.tags) n) c.loop-at.at x.tag x.value.start x.value.len) c.extended-total.ensures
@@ -73,7 +73,7 @@ pub offset_bounds-items-count : goal.offset_bounds-items-count
 offset_bounds-items-count c = omega (arith, (plain_fits _ _ _ _ _ _ (audio (goal.at.offset_bounds-items-count c).In-Ok-Plain)).room)
 
 pub bounds-items-count : goal.bounds-items-count
-bounds-items-count c = (plain_fits _ _ _ _ _ _ (audio (goal.at.bounds-items-count c).In-Ok-Plain)).room
+bounds-items-count c = omega (arith, (plain_fits _ _ _ _ _ _ (audio (goal.at.bounds-items-count c).In-Ok-Plain)).room)
 
 pub overflow_add-count : goal.overflow_add-count
 overflow_add-count c = omega (arith, (plain_fits _ _ _ _ _ _ (audio (goal.at.overflow_add-count c).In-Ok-Plain)).room)
@@ -152,7 +152,7 @@ pub offset_bounds-items-count-in-Ok-Open : goal.offset_bounds-items-count-in-Ok-
 offset_bounds-items-count-in-Ok-Open c = omega (arith, (open_fits _ _ _ _ _ (sync (goal.at.offset_bounds-items-count-in-Ok-Open c).In-Ok-Open)).0.room)
 
 pub bounds-items-count-in-Ok-Open : goal.bounds-items-count-in-Ok-Open
-bounds-items-count-in-Ok-Open c = (open_fits _ _ _ _ _ (sync (goal.at.bounds-items-count-in-Ok-Open c).In-Ok-Open)).0.room
+bounds-items-count-in-Ok-Open c = omega (arith, (open_fits _ _ _ _ _ (sync (goal.at.bounds-items-count-in-Ok-Open c).In-Ok-Open)).0.room)
 
 pub loop-at-smaller : goal.loop-at-smaller
 loop-at-smaller c =

@@ -1,14 +1,9 @@
--- `pack_rows::put_row` meets its contract: the part of the run is the row, and the rest stays.
-use mathlib.Core.Path.{refl, ◌∙◌}
-use native.Mathlib.Omega.{arith}
-use Rattle.std.proofs.lemmas.Slice.{put_mid-paste}
-use Rattle.runs.proofs.Over.{over_paste}
+-- `pack_rows::put_row` meets its contract: eight stores, one after the other.
+use borrow.Author.Rules.{rules}
+use Rattle.pack_rows.proofs.Laws.{row_stored}
 use Rattle.pack_rows.proofs.put_row.Goals as goal
 
 pub returns : goal.returns
 returns c =
     let a = c.args in
-    record {
-      next = refl;
-      buffer = put_mid-paste _ _ _ _ a.row.now _ c.copy_from_slice.ensures.after (omega arith) refl ∙ over_paste a.out.now a.at a.row.now;
-    }
+    row_stored a.out.now a.at a.row (search rules) c.requires

@@ -1,6 +1,6 @@
 -- `pack_rows::rows` meets its contract: each return by what is delivered there. The loop keeps what is left to write: the numbers of the rows left.
 use Prim.Native.Nat.{ℕ, ◌+◌, ◌<◌, ◌≤◌}
-use mathlib.Core.Path.{◌≡◌, ap, ◌∙◌, subst}
+use mathlib.Core.Path.{◌≡◌, sym, ap, ◌∙◌, subst}
 use mathlib.Core.List.{List, ◌++◌}
 use native.Mathlib.Omega.{arith}
 use lib.ListN.{length, take, drop, get_or, length-append}
@@ -10,12 +10,14 @@ use Rattle.std.proofs.lemmas.Result.{err_from_is_err_and}
 use Rattle.runs.proofs.Over.{wrote_as}
 use Rattle.runs.proofs.Writing.{Writing, writing_begins, writing_as, writing_run, writing_done}
 use Rattle.pack.specs.Fits.{ItemFits}
+use Rattle.pack.specs.Slots.{blank}
 use Rattle.pack.specs.Made.{made}
 use Rattle.pack.specs.declared.Item.{Item}
 use Rattle.pack.proofs.Slots.{slot_fits}
 use Rattle.pack.proofs.Made.{made_first, made_none}
 use Rattle.pack_read.proofs.Outlines.{outlined_none}
 use Rattle.pack_rows.specs.Rows.{item_row}
+use Rattle.pack_rows.proofs.Laws.{item_eight}
 use Rattle.pack_rows.proofs.Whole.{Rows, rows_refused, rows_shown, rows_noroom, rows_done}
 use Rattle.pack_rows.proofs.rows.Goals as goal
 use Rattle.pack_rows.proofs.rows.Goals.{In_ok-found, In-loop-i}
@@ -73,7 +75,8 @@ pub put_row-next-requires-in-loop-i : goal.put_row-next-requires-in-loop-i
 put_row-next-requires-in-loop-i c =
     let f = c.read_into.new in
     let t = shown (goal.at.put_row-next-requires-in-loop-i c).In_ok-found in
-    room _ _ (left f.maps.places f.items c.in_ok-found.found.count c.loop-i.i _ t.there c.loop-i-test.true c.loop-i.invariant) (ap length c.item_row.ensures)
+    room _ _ (left f.maps.places f.items c.in_ok-found.found.count c.loop-i.i blank t.there c.loop-i-test.true c.loop-i.invariant)
+    (sym (item_eight f.maps.places (get_or f.items c.loop-i.i blank)))
 
 pub loop-i-preserved : goal.loop-i-preserved
 loop-i-preserved c =

@@ -5,37 +5,31 @@ use native.Mathlib.Omega.{arith}
 use lib.ListN.{length, get_or, drop, length-append}
 use Rattle.runs.proofs.Those.{each_at}
 use Rattle.runs.proofs.Writing.{Writing, writing_as, writing_run, writing_done}
-use Rattle.pack.specs.declared.Name.TheVariants.{Label}
-use Rattle.pack.specs.declared.Item.{Item}
-use Rattle.pack.specs.declared.Item.TheVariants.{Single}
+use Rattle.pack.specs.Slots.{blank}
 use Rattle.pack.proofs.Made.{made_none}
 use Rattle.pack_text.specs.Items.{item_line, item_lines, ItemStands}
 use Rattle.pack_text.proofs.Items.{lines_next}
 use Rattle.pack_text.proofs.put_items.Goals as goal
 use Rattle.pack_text.proofs.put_items.Goals.{In-loop-item}
 
--- what stands for an item outside the items
-abbrev outside : Item
-outside = Single (record { name = Label 0; start = 0; value_start = 0; value_len = 0; total = 0 })
-
 -- what is left where the loop goes on: the line of the next item, then the others
 left : (c : In-loop-item)
     → let a = c.args in
     let l = c.loop-item in
     Writing a.out.now a.at (item_lines a.pack.now a.places.now a.items.now) l.out l.next
-    (item_line a.pack.now a.places.now (get_or a.items.now l.item-index outside) ++ item_lines a.pack.now a.places.now (drop (l.item-index + 1) a.items.now))
+    (item_line a.pack.now a.places.now (get_or a.items.now l.item-index blank) ++ item_lines a.pack.now a.places.now (drop (l.item-index + 1) a.items.now))
 left c =
     let a = c.args in
-    writing_as (lines_next a.pack.now a.places.now a.items.now c.loop-item.item-index outside c.loop-item-test.true) c.loop-item.invariant
+    writing_as (lines_next a.pack.now a.places.now a.items.now c.loop-item.item-index blank c.loop-item-test.true) c.loop-item.invariant
 
 pub put_item-next-requires : goal.put_item-next-requires
 put_item-next-requires c =
     let a = c.args in
     let i = c.loop-item.item-index in
-    let first = item_line a.pack.now a.places.now (get_or a.items.now i outside) in
+    let first = item_line a.pack.now a.places.now (get_or a.items.now i blank) in
     let more = item_lines a.pack.now a.places.now (drop (i + 1) a.items.now) in (
       omega (arith, (left (goal.at.put_item-next-requires c).In-loop-item).room, length-append first more),
-      each_at (ItemStands a.pack.now a.places.now) a.items.now i outside c.requires.1 c.loop-item-test.true,
+      each_at (ItemStands a.pack.now a.places.now) a.items.now i blank c.requires.1 c.loop-item-test.true,
     )
 
 pub loop-item-preserved : goal.loop-item-preserved

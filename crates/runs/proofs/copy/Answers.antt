@@ -1,14 +1,29 @@
--- `runs::copy` meets its contract: the part of the buffer is the run, and the rest stays.
-use mathlib.Core.Path.{refl, ◌∙◌}
+-- `runs::copy` meets its contract: the loop leaves nothing to write.
+use mathlib.Core.Path.{◌≡◌, subst}
+use Prim.Native.Nat.{ℕ, ◌+◌}
+use native.Mathlib.Nat.{add-zero, add_assoc}
 use native.Mathlib.Omega.{arith}
-use Rattle.std.proofs.lemmas.Slice.{put_mid-paste}
-use Rattle.runs.proofs.Over.{over_paste}
+use lib.ListN.{length, drop_of_length-le}
+use Rattle.runs.specs.Over.{Wrote}
+use Rattle.runs.proofs.Stands.{here}
+use Rattle.runs.proofs.Writing.{writing_begins, writing_as, writing_byte, writing_done}
 use Rattle.runs.proofs.copy.Goals as goal
+
+pub loop-i-init : goal.loop-i-init
+loop-i-init c = let a = c.args in rw (add-zero a.at) (writing_begins a.out.now a.at a.src.now c.requires)
+
+pub loop-i-preserved : goal.loop-i-preserved
+loop-i-preserved c =
+    let a = c.args in
+    let l = c.loop-i in
+    rw (← add_assoc a.at l.i 1) (writing_byte _ _ (writing_as (here a.src.now l.i c.loop-i-test.true) l.invariant))
+
+pub shape_of-out : goal.shape_of-out
+shape_of-out c = c.loop-i.invariant.same
 
 pub returns : goal.returns
 returns c =
     let a = c.args in
-    record {
-      next = refl;
-      buffer = put_mid-paste _ _ _ _ a.src.now _ c.copy_from_slice.ensures.after (omega arith) refl ∙ over_paste a.out.now a.at a.src.now;
-    }
+    let l = c.loop-i in
+    let end : l.i ≡ length a.src.now = omega arith in
+    subst (λ (n : ℕ). Wrote a.out.now a.at a.src.now (a.at + n) l.out) end (writing_done (writing_as (drop_of_length-le _ c.loop-i-test.false) l.invariant))

@@ -1,5 +1,5 @@
 -- `scrub::prepare` meets its contract. Each pass asks what an accepted pack has, and the passes together prepare what is kept.
-use Rattle.scrub.proofs.Accepting.{few_items, flags_ask, note_asks, plan_asks, labels_few, order_asks, marks_ask, index_asks, prepared}
+use Rattle.scrub.proofs.Accepting.{few_items, flags_ask, note_asks, plan_asks, labels_few, marks_ask, index_asks, prepared}
 use Rattle.scrub.proofs.prepare.Goals as goal
 
 pub flags-flags-requires : goal.flags-flags-requires
@@ -11,7 +11,6 @@ note-requires c = (few_items c.requires.0 c.args.sheet.now, note_asks c.requires
 pub assign-requires : goal.assign-requires
 assign-requires c = (
   labels_few c.requires.0 c.args.sheet.now _ c.flags-flags.ensures _ c.note.ensures,
-  order_asks c.requires.0 c.args.sheet.now _ c.flags-flags.ensures _ c.note.ensures,
   c.requires.1,
 )
 

@@ -8,12 +8,9 @@ pub returns-in_err-asked : goal.returns-in_err-asked
 unfolding answered
 returns-in_err-asked c = rw (judged_refused c.args.s.now c.in_err-asked.ensures) (search rules)
 
-pub short_numbers-short-requires : goal.short_numbers-short-requires
-short_numbers-short-requires c = judged_holds _ c.in_ok-asked.ensures
-
-pub invariant_of-result : goal.invariant_of-result
-invariant_of-result c = (judged_holds _ c.in_ok-asked.ensures, c.short_numbers-short.ensures)
+pub new-requires : goal.new-requires
+new-requires c = judged_holds _ c.in_ok-asked.ensures
 
 pub returns : goal.returns
 unfolding answered
-returns c = rw (judged_fine _ c.in_ok-asked.ensures)
+returns c = rw (judged_fine _ c.in_ok-asked.ensures, c.new.ensures)

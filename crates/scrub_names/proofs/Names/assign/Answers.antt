@@ -17,8 +17,9 @@ loop-k-preserved c =
     let few = c.requires.0 in
     let n = length-take-le c.args.self.now.labels c.args.self.now.order (omega arith) in
     let h = c.loop-k-test.true in
-    giving_step c.loop-k.invariant _ _ (omega arith) (omega arith) c.clear_from-free.ensures.near c.clear_from-free.ensures.place
-    (sym (get_or-take c.args.self.now.labels c.args.self.now.order c.loop-k.k 0 h))
+    rw c.place_of.ensures
+    (giving_step c.loop-k.invariant _ _ (omega arith) (omega arith) c.clear_from-free.ensures.near c.clear_from-free.ensures.place
+    (sym (get_or-take c.args.self.now.labels c.args.self.now.order c.loop-k.k 0 h)))
 
 pub returns : goal.returns
 returns c =

@@ -1,6 +1,6 @@
 use Rattle.std.proofs.Common.{◌-◌, rules, length}
 use Rattle.vectors.proofs.Reading.{read_more}
-use Rattle.vectors.proofs.read_full.Goals as goal
+use Rattle.vectors_scrub.proofs.read_full.Goals as goal
 
 pub loop-n-preserved : goal.loop-n-preserved
 loop-n-preserved g c =
