@@ -91,8 +91,8 @@ uint32_t bw_version(void);
 #define BW_SHEET_MAX (8 + 16 * BW_SHEET_LABELS_MAX + 4 * BW_SHEET_NUMBERS_MAX) /* bytes of the longest keep sheet */
 
 /*
- * Bytes of stack to leave for a call. Measured, not proved: bw_scrub takes 37 KiB, bw_read 33 KiB, bw_objects_apply
- * 31 KiB, bw_check and bw_lookup 28 KiB, bw_objects_clear 10 KiB, the others under 1 KiB, on either processor.
+ * Bytes of stack to leave for a call. Measured, not proved: bw_scrub takes 33 KiB, bw_objects_apply 31 KiB, bw_read
+ * 29 KiB, bw_check and bw_lookup 28 KiB, bw_objects_clear 10 KiB, the others under 1 KiB, on either processor.
  */
 #define BW_STACK 40960
 
