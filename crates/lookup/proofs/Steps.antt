@@ -1,11 +1,11 @@
 -- What was found first: of one list after another, of a payload by its tag, and of one part of a pack more.
 use mathlib.Core.Path.{◌≡◌, refl, sym, ap, ap₂, ◌∙◌}
 use mathlib.Core.List.{List, [], ◌∷◌, ◌++◌, append_assoc, append-nil}
-use mathlib.Core.Bool.{Bool}
+use mathlib.Core.Bool.{Bool, true, false}
 use Prim.Native.Nat.{ℕ}
-use lib.Dec.{eqb}
+use borrow.Author.Tests.{eq-eqb, ne_eqb}
 use Rattle.std.specs.Prelude.{Option, Some, None, cond}
-use Rattle.std.specs.Option.{option_or, option_eq}
+use Rattle.std.specs.Option.{option_or, unwrap_or}
 use Rattle.runs.specs.Those.{those}
 use Rattle.runs.proofs.Cases.{split}
 use Rattle.runs.proofs.Those.{those_append}
@@ -26,15 +26,20 @@ pub or_none : (x : Option Spot) → x ≡ option_or x None
 or_none None = refl
 or_none (Some x) = refl
 
--- what was found before, or else a payload, by the test of its tag
-tested : (wanted : Option ℕ) (t : ℕ) → is_wanted wanted t ≡ option_eq eqb wanted (Some t)
-tested None t = refl
-tested (Some tag) t = refl
+-- a payload's tag, which is not Config's, is the one that is sought, or is not
+pub tag_same : (wanted : Option ℕ) (t : ℕ) → (t ≡ 1 → ⊥) → t ≡ unwrap_or wanted 1 → is_wanted wanted t ≡ true
+tag_same None t other e = absurd (other e)
+tag_same (Some tag) t other e = eq-eqb _ _ (sym e)
 
-module _ (wanted : Option ℕ) (t start len total : ℕ) {b : Bool} (e : option_eq eqb wanted (Some t) ≡ b) where
+pub tag_other : (wanted : Option ℕ) (t : ℕ) → (t ≡ unwrap_or wanted 1 → ⊥) → is_wanted wanted t ≡ false
+tag_other None t e = refl
+tag_other (Some tag) t e = ne_eqb _ _ (λ x. e (sym x))
+
+-- what was found before, or else a payload, by the test of its tag
+module _ (wanted : Option ℕ) (t start len total : ℕ) {b : Bool} (e : is_wanted wanted t ≡ b) where
   pub or_tag : (first : Option Spot) {next : Option Spot} → next ≡ option_or first (cond b (Some (spot_of start len total)) None) → next ≡ option_or first (of_tag wanted t start len total)
   unfolding of_tag
-  or_tag first is = is ∙ sym (ap (λ (x : Bool). option_or first (cond x (Some (spot_of start len total)) None)) (tested wanted t ∙ e))
+  or_tag first is = is ∙ sym (ap (λ (x : Bool). option_or first (cond x (Some (spot_of start len total)) None)) e)
 
 module _ (test : Name → Bool) where
   in_append : (xs ys : List Payload) → first_in test (xs ++ ys) ≡ option_or (first_in test xs) (first_in test ys)

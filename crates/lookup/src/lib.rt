@@ -39,6 +39,9 @@ pub enum Unfound {
     Absent,
 }
 
+// The tag of Config, which no payload has. It stands for no tag in the loops over payloads, where an `Option` is more to compare; there it pays.
+const NO_PAYLOAD: u32 = 1;
+
 // Where a value stands in its pack, and its payload's total offset in two's complement. In 32 bits each, since the loops carry it along.
 #[derive(Clone, Copy, Debug, PartialEq, Eq)]
 pub struct Spot {
@@ -55,6 +58,7 @@ pub struct Inside {
 }
 
 // What was found before, or else where a payload that is sought has its value. Few payloads are, so this stays out of the loops over them; there it pays.
+#[cold]
 #[inline(never)]
 fn or_spot(first: Option<Spot>, total: u32, base: usize, value: Stretch) -> Option<Spot>
     requires { base + (value.start + value.len) ≤ 32768 }
@@ -79,6 +83,7 @@ fn seek_inside(
     requires { (used ≤ 64) × (base + length q.now ≤ 32768) }
     ensures { (tags : List ℕ) (test : Name → Bool) → Tells tags test wanted → InsideSought q.now (ground_of tags total) test base used result }
 {
+    let sought = wanted.unwrap_or(NO_PAYLOAD);
     let mut first: Option<Spot> = None;
     let mut count = used;
     let mut at: usize = 0;
@@ -86,7 +91,7 @@ fn seek_inside(
         match pack_item::inner_at(q, at, count) {
             Err(why) => return Err(why.at(base + at)),
             Ok(Element { tag, value }) => {
-                if wanted == Some(tag) {
+                if tag == sought {
                     first = or_spot(first, total, base, value);
                 }
                 count += 1;
@@ -108,6 +113,7 @@ fn seek_items(
     requires { length s.now ≤ 32768 }
     ensures { (tags : List ℕ) (test : Name → Bool) → Tells tags test wanted → result ≡ answered (sought_body test) (items_from (length s.now) s.now (ground_of tags total) from 0) }
 {
+    let sought = wanted.unwrap_or(NO_PAYLOAD);
     let mut first: Option<Spot> = None;
     let mut n: usize = 0;
     let mut at = from;
@@ -121,7 +127,7 @@ fn seek_items(
                 return Err(Refusal::Crc.at(at));
             }
             Ok(Step::Plain(Element { tag, value })) => {
-                if wanted == Some(tag) {
+                if tag == sought {
                     first = or_spot(first, total, 0, value);
                 }
                 n += 1;

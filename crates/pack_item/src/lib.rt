@@ -53,7 +53,8 @@ fn look(p: &[u8], at: usize) -> Option<Element>
 }
 
 // The payload at `at` of a part: tag, length, value end, in this order.
-pub fn payload_at(p: &[u8], at: usize) -> Result<Element, Refusal>
+#[inline(always)]
+fn parsed_at(p: &[u8], at: usize) -> Result<Element, Refusal>
     ensures { result ≡ payload_at p.now at }
 {
     let (tag, next) = match numbers::read_tag(p, at) {
@@ -72,6 +73,15 @@ pub fn payload_at(p: &[u8], at: usize) -> Result<Element, Refusal>
     }
     let value = Stretch { start, len };
     Ok(Element { tag, value })
+}
+
+// The payload at `at` of a part. Few payloads come to this, so it is a call out of the loops over them; there it pays.
+#[cold]
+#[inline(never)]
+pub fn payload_at(p: &[u8], at: usize) -> Result<Element, Refusal>
+    ensures { result ≡ payload_at p.now at }
+{
+    parsed_at(p, at)
 }
 
 // The payload at `at` of the inside of a Sync, where `used` items and payloads came before.
@@ -94,8 +104,7 @@ pub fn inner_at(q: &[u8], at: usize, used: usize) -> Result<Element, Refusal>
     Ok(element)
 }
 
-// What a payload of the pack is: PLACE, COUNT, own content. Few payloads come to this, so it stays out of the loops over items; there it pays.
-#[inline(never)]
+// What a payload of the pack is: PLACE, COUNT, own content.
 fn judge(s: &[u8], used: usize, element: Element) -> Result<Step, Refusal>
     requires { element.value.start + element.value.len ≤ length s.now }
     ensures { result ≡ judged s.now used element.tag element.value.start element.value.len }
@@ -126,6 +135,16 @@ fn judge(s: &[u8], used: usize, element: Element) -> Result<Step, Refusal>
     Ok(Step::Plain(element))
 }
 
+// What stands at `at` of the pack, read in full, where `used` items and payloads came before. Few items come to this, so it is a call out of the loops over
+// them, and one alone: for each answer of a call they clear room at every item.
+#[cold]
+#[inline(never)]
+fn item_in_full(s: &[u8], at: usize, used: usize) -> Result<Step, Refusal>
+    ensures { result ≡ item_at s.now at used }
+{
+    judge(s, used, parsed_at(s, at)?)
+}
+
 // What stands at `at` of the pack, where `used` items and payloads came before. Each loop over items has its own copy of this: as a call it took half as
 // long again. An element's fields are taken apart where they are handed on, so that they stay in registers.
 #[inline(always)]
@@ -138,7 +157,7 @@ pub fn item_at(s: &[u8], at: usize, used: usize) -> Result<Step, Refusal>
             return Ok(Step::Plain(Element { value, tag }));
         }
     }
-    judge(s, used, payload_at(s, at)?)
+    item_in_full(s, at, used)
 }
 
 // Whether the CRC whose value stands at `at` is that of the pack up to `at`.

@@ -126,6 +126,7 @@ fn read_items(
                 return Err(Refusal::Crc.at(at));
             }
             Ok(Step::Plain(Element { value, tag })) => {
+                // Taken apart and put together again, since else its tag is stored by four bytes and loaded by eight.
                 let element = Element { value, tag };
                 items[count] = Item::Single(payload(maps, total, 0, at, element));
                 count += 1;

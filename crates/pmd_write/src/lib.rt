@@ -38,10 +38,41 @@ fn free_from(field: Field) -> u32
     }
 }
 
-// The number n of a list, which a field of w bits has to take: every number from `free` on, and others by the field's rule. Each loop has its own
-// copy: as a call it took half as long again.
+// Whether a field of w bits takes the number v, by the field's rule. Few numbers of rows come to this, so it stays out of their loops.
+#[cold]
+#[inline(never)]
+fn by_rule(field: Field, w: usize, v: u32) -> bool
+    requires { w ≡ width_of field }
+    ensures { result ≡ fits field v }
+{
+    field.takes(w, v)
+}
+
+// Whether a field of w bits takes the number v: every number from `free` on, and others by the field's rule. Turnarounds come to the rule more often, and
+// their loop holds more than fits beside a call, so they have the rule in it.
 #[inline(always)]
-fn taken(numbers: &[u32], n: usize, field: Field, free: u32, w: usize) -> Result<u32, Refused>
+fn takes<const TURNAROUNDS: bool>(field: Field, free: u32, w: usize, v: u32) -> bool
+    requires { (w ≡ width_of field) × (free ≡ free_from field) }
+    ensures { result ≡ fits field v }
+{
+    if v < 1 << w && free <= v {
+        return true;
+    }
+    if TURNAROUNDS {
+        return field.takes(w, v);
+    }
+    by_rule(field, w, v)
+}
+
+// The number n of a list, which a field of w bits has to take. Each loop has its own copy: as a call it took half as long again.
+#[inline(always)]
+fn taken<const TURNAROUNDS: bool>(
+    numbers: &[u32],
+    n: usize,
+    field: Field,
+    free: u32,
+    w: usize,
+) -> Result<u32, Refused>
     requires { (w ≡ width_of field) × (free ≡ free_from field) }
     ensures { result ≡ cond (leb (length numbers.now) n) (Err (refused_at R.Bits n)) (cond (fits field (slice_index numbers.now n)) (Ok (slice_index numbers.now n)) (Err (refused_at R.Field n))) }
 {
@@ -49,10 +80,7 @@ fn taken(numbers: &[u32], n: usize, field: Field, free: u32, w: usize) -> Result
         return Err(Refusal::Bits.at(n));
     }
     let v = numbers[n];
-    if v < 1 << w && free <= v {
-        return Ok(v);
-    }
-    if !field.takes(w, v) {
+    if !takes::<TURNAROUNDS>(field, free, w, v) {
         return Err(Refusal::Field.at(n));
     }
     Ok(v)
@@ -67,7 +95,8 @@ fn choose(first: bool, a: usize, b: usize) -> usize
 // How many bits the numbers take as records of this shape, or what is wrong with them. A list may be so long that no count holds its bits: one of
 // more numbers than a value has bits, each of which takes a bit at least, is judged and not weighed.
 // Three loops of their own, as in the reader: the numbers say how many records there are, which pieces a flag passes over, and whether a piece has
-// another field.
+// another field. They stay out of their caller, which else would hand out its registers to both passes.
+#[inline(never)]
 fn weigh<const TURNAROUNDS: bool>(shape: Shape, numbers: &[u32]) -> Result<usize, Refused>
     ensures { result ≡ answered (weight numbers.now) (write_shape TURNAROUNDS shape numbers.now) }
 {
@@ -81,11 +110,11 @@ fn weigh<const TURNAROUNDS: bool>(shape: Shape, numbers: &[u32]) -> Result<usize
             let width = piece.width as usize;
             let free = free_from(piece.field);
             let last = 'fields: loop {
-                let v = taken(numbers, n, piece.field, free, width)?;
+                let v = taken::<TURNAROUNDS>(numbers, n, piece.field, free, width)?;
                 total += choose(few, width, 0);
                 n += 1;
                 if piece.has_partner::<TURNAROUNDS>() {
-                    taken(numbers, n, Field::Parameters, 0, PARAMETERS)?;
+                    taken::<TURNAROUNDS>(numbers, n, Field::Parameters, 0, PARAMETERS)?;
                     total += choose(few, PARAMETERS, 0);
                     n += 1;
                 }
@@ -103,6 +132,7 @@ fn weigh<const TURNAROUNDS: bool>(shape: Shape, numbers: &[u32]) -> Result<usize
 }
 
 // Puts numbers that were weighed and have room, in the loops of `weigh`, and answers how many bytes they are.
+#[inline(never)]
 fn put<const TURNAROUNDS: bool>(shape: Shape, numbers: &[u32], out: &mut [u8]) -> usize
     requires { Roomy (write_shape TURNAROUNDS shape numbers.now) (8 * length out.old) }
     ensures { Delivered (packing (write_shape TURNAROUNDS shape numbers.now)) out.old (Ok result) out.new }

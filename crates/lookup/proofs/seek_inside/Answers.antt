@@ -2,11 +2,11 @@
 use mathlib.Core.Path.{refl, sym, ap, ◌∙◌}
 use native.Mathlib.Omega.{arith}
 use Rattle.std.specs.Prelude.{Err}
-use Rattle.pack.proofs.Payloads.{inner_within}
-use Rattle.lookup.proofs.Steps.{or_none, or_tag}
+use Rattle.pack.proofs.Payloads.{inner_within, inner_other}
+use Rattle.lookup.proofs.Steps.{or_none, or_tag, tag_same, tag_other}
 use Rattle.lookup.proofs.Seeking.{seek_begins, seek_on, seek_done, seek_stops}
 use Rattle.lookup.proofs.seek_inside.Goals as goal
-use Rattle.lookup.proofs.seek_inside.Goals.{then-eq, else-eq}
+use Rattle.lookup.proofs.seek_inside.Goals.{then-tag-sought, else-tag-sought}
 
 pub loop-at-init : goal.loop-at-init
 loop-at-init c = λ tags test tells. seek_begins c.requires.0 refl
@@ -32,11 +32,13 @@ loop-at-smaller c = let w = inner_within _ _ _ _ _ _ (sym c.inner_at.ensures ∙
 
 pub loop-at-preserved : goal.loop-at-preserved
 loop-at-preserved c =
+    let there = sym c.inner_at.ensures ∙ c.in-Ok.is in
     λ tags test tells.
-    seek_on (c.loop-at.invariant tags test tells) _ tells c.loop-at-test.true (sym c.inner_at.ensures ∙ c.in-Ok.is)
-    (elim c.if-eq.branch [
-      | then-eq w ↦ or_tag _ _ _ _ _ (sym c.eq.ensures ∙ w.if-eq.true) _ (w.first-is ∙ w.or_spot-first.ensures)
-      | else-eq w ↦ or_tag _ _ _ _ _ (sym c.eq.ensures ∙ w.if-eq.false) _ (w.first-is ∙ or_none _)
+    seek_on (c.loop-at.invariant tags test tells) _ tells c.loop-at-test.true there
+    (elim c.if-tag-sought.branch [
+      | then-tag-sought w ↦
+          or_tag _ _ _ _ _ (tag_same _ _ (inner_other _ _ _ _ _ _ there) (w.if-tag-sought.true ∙ c.unwrap_or-sought.ensures)) _ (w.first-is ∙ w.or_spot-first.ensures)
+      | else-tag-sought w ↦ or_tag _ _ _ _ _ (tag_other _ _ (λ e. w.if-tag-sought.false (e ∙ sym c.unwrap_or-sought.ensures))) _ (w.first-is ∙ or_none _)
     ])
 
 pub returns : goal.returns

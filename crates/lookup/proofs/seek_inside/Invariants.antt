@@ -10,7 +10,7 @@ use Rattle.lookup.proofs.Seeking.{Within}
 use Rattle.lookup.proofs.seek_inside.Given as goal
 
 abbrev pub invariant-loop-at : goal.invariant-loop-at
-invariant-loop-at l = (tags : List ℕ) (test : Name → Bool) → Tells tags test l.wanted → Within l.q (ground_of tags l.total) test l.base l.used l.count l.at l.first
+invariant-loop-at l = (tags : List ℕ) (test : Name → Bool) → Tells tags test l.fn.wanted → Within l.q (ground_of tags l.total) test l.base l.used l.count l.at l.first
 
 abbrev pub decreases-loop-at : goal.decreases-loop-at
 decreases-loop-at l = length l.q - l.at

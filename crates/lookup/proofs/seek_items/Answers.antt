@@ -14,13 +14,13 @@ use Rattle.numbers.specs.Big.{extended, sum32}
 use Rattle.pack.specs.Payloads.{ground_of}
 use Rattle.pack.specs.Items.{item_at, plain, opens, closes, sync_ground}
 use Rattle.pack.specs.declared.Name.{Name}
-use Rattle.pack.proofs.Payloads.{plain_fits, open_fits, close_ends}
+use Rattle.pack.proofs.Payloads.{plain_fits, plain_other, open_fits, close_ends}
 use Rattle.pack.proofs.Coming.{coming_ends, coming_bad, coming_good, coming_crc, sync_refused, sync_none, inside_long, inside_part}
 use Rattle.lookup.specs.Sought.{spot_of, Tells, InsideSought, sought_body}
-use Rattle.lookup.proofs.Steps.{or_none, or_tag}
+use Rattle.lookup.proofs.Steps.{or_none, or_tag, tag_same, tag_other}
 use Rattle.lookup.proofs.Seeking.{on_sum, items_begin, plain_on, open_on, counted, inside_told}
 use Rattle.lookup.proofs.seek_items.Goals as goal
-use Rattle.lookup.proofs.seek_items.Goals.{then-eq, else-eq, After-seek_inside, In-Ok-Close, In-Ok-Open, In-Ok-Plain}
+use Rattle.lookup.proofs.seek_items.Goals.{then-tag-sought, else-tag-sought, After-seek_inside, In-Ok-Close, In-Ok-Open, In-Ok-Plain}
 
 -- in each arm, what stands there
 payload : (c : In-Ok-Plain)
@@ -81,12 +81,13 @@ loop-at-smaller-in-Ok-Plain c = let f = plain_fits _ _ _ _ _ _ (payload (goal.at
 pub loop-at-preserved-in-Ok-Plain : goal.loop-at-preserved-in-Ok-Plain
 loop-at-preserved-in-Ok-Plain c =
     let x = c.in-Ok-Plain.field-0-0 in
+    let there = payload (goal.at.loop-at-preserved-in-Ok-Plain c).In-Ok-Plain in
     λ tags test tells.
-    plain_on (c.loop-at.invariant tags test tells) c.loop-at-test.true _ tells (payload (goal.at.loop-at-preserved-in-Ok-Plain c).In-Ok-Plain)
-    (elim c.if-eq.branch [
-      | then-eq w ↦ or_tag _ _ _ _ _ (sym c.eq.ensures ∙ w.if-eq.true) _ (w.first-is ∙ w.or_spot-first.ensures
+    plain_on (c.loop-at.invariant tags test tells) c.loop-at-test.true _ tells there
+    (elim c.if-tag-sought.branch [
+      | then-tag-sought w ↦ or_tag _ _ _ _ _ (tag_same _ _ (plain_other _ _ _ _ _ _ there) (w.if-tag-sought.true ∙ c.unwrap_or-sought.ensures)) _ (w.first-is ∙ w.or_spot-first.ensures
           ∙ ap (λ (v : ℕ). option_or c.loop-at.first (Some (spot_of v x.value.len c.args.total))) (zero-add x.value.start))
-      | else-eq w ↦ or_tag _ _ _ _ _ (sym c.eq.ensures ∙ w.if-eq.false) _ (w.first-is ∙ or_none _)
+      | else-tag-sought w ↦ or_tag _ _ _ _ _ (tag_other _ _ (λ e. w.if-tag-sought.false (e ∙ sym c.unwrap_or-sought.ensures))) _ (w.first-is ∙ or_none _)
     ])
 
 pub overflow_add-base : goal.overflow_add-base

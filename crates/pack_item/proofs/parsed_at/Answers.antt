@@ -1,10 +1,10 @@
--- `pack_item::payload_at` meets its contract: what the tag and the length were found to be is put into the definition.
+-- `pack_item::parsed_at` meets its contract: what the tag and the length were found to be is put into the definition.
 use Rattle.std.specs.Prelude.{Err}
 use mathlib.Core.Path.{sym, ap, ◌∙◌}
 use borrow.Author.Tests.{lt-leb, le-leb}
 use Rattle.numbers.proofs.Lengths.{length_next}
 use Rattle.pack.specs.Payloads.{payload_at, tag_found, value_found}
-use Rattle.pack_item.proofs.payload_at.Goals as goal
+use Rattle.pack_item.proofs.parsed_at.Goals as goal
 
 pub returns-in-Err-Form : goal.returns-in-Err-Form
 unfolding payload_at tag_found value_found
