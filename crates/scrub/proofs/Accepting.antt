@@ -7,6 +7,7 @@ use Prim.Native.Nat.{ℕ, ◌+◌, ◌-◌, ◌<◌, ◌≤◌}
 use native.Mathlib.Omega.{arith}
 use lib.ListN.{length, take}
 use Rattle.runs.specs.Those.{Each}
+use Rattle.runs.proofs.Those.{each_map}
 use Rattle.pack.specs.Config.{places_of}
 use Rattle.refusals.specs.Outcomes.{fine}
 use Rattle.pack.specs.declared.Name.{Name}
@@ -29,8 +30,8 @@ use Rattle.scrub_config.specs.Entries.{config_size}
 use Rattle.scrub_ops.specs.declared.Op.{Op}
 use Rattle.scrub_plan.specs.Planned.{Plans, ItemSmall, MarkFits}
 use Rattle.scrub.specs.Ready.{Accepts, Ready}
-use Rattle.scrub.proofs.Shown.{places_fit, slots_small, places_count}
-use Rattle.scrub.proofs.Preparing.{a, marks, marks_low, few, few_labels, marks_fit, index_fits, ready}
+use Rattle.scrub.proofs.Shown.{places_fit, slots_small, labels, labels_count, places_count}
+use Rattle.scrub.proofs.Preparing.{a, marks, marks_low, order_is, order_each, few, few_labels, marks_fit, index_fits, ready}
 
 module _ {s : List ℕ} {offset : ℕ} {stood : List ℕ} {items : List Item} (g : Accepts s offset stood items) (sh : Sheet) where
   abbrev r : Read
@@ -63,6 +64,12 @@ module _ {s : List ℕ} {offset : ℕ} {stood : List ℕ} {items : List Item} (g
 
     pub labels_few : nm.labels ≤ 64
     labels_few = let f = few s g.bytes r g.is sh in let e = noted_is.labels in omega arith
+
+    -- a label that stays has a place, so that none is mapped from where no place is told
+    pub order_asks : Each (λ (i : ℕ). i < length stood) (take nm.labels nm.order)
+    order_asks =
+        let n : length stood ≡ length (labels s r acc) = ap length g.stand ∙ places_count s r acc ∙ sym (labels_count s r acc) in
+        rw (order_is s g.bytes r g.is sh nm noted_is) (each_map (λ i l. omega arith) _ (order_each s g.bytes r g.is sh))
 
     pub marks_ask : Each MarkFits nm.marks
     marks_ask =

@@ -4,13 +4,13 @@ use mathlib.Core.List.{List, ◌∷◌}
 use mathlib.Core.Bool.{Bool, true, false, cond, not, ◌&&◌}
 use Prim.Native.Nat.{ℕ, zero, suc, ◌+◌, ◌-◌, ◌*◌, ◌^◌, ◌<◌, ◌≤◌}
 use native.Mathlib.Omega.{arith}
-use lib.Dec.{ltb, eqb}
+use lib.Dec.{ltb, leb, eqb}
 use lib.ListN.{take, drop}
 use borrow.Author.Tests.{lt-ltb, le-ltb}
 use Rattle.runs.specs.Same.{same, among, listed}
 use Rattle.numbers.specs.Big.{big_at}
 use Rattle.pack.specs.Fixed.{utility_labels}
-use Rattle.scrub_kept.specs.Sheet.{labels_at, numbers_at, labels_good}
+use Rattle.scrub_kept.specs.Sheet.{labels_at, numbers_at, labels_good, numbers_good}
 
 labels_next : (s : List ℕ) (at n : ℕ) → 0 < n → labels_at s at n ≡ take 16 (drop at s) ∷ labels_at s (at + 16) (n - 1)
 unfolding labels_at
@@ -59,6 +59,12 @@ module _ (s : List ℕ) (at n k : ℕ) (h : k < n) where
       → labels_good (labels_at s (at + 16 * k) (n - k)) ≡ not u && (not again && labels_good (labels_at s (at + 16 * (k + 1)) (n - (k + 1))))
   unfolding labels_good
   label_judged e f = rw (label_here, e, ← labels_after, f)
+
+  pub number_judged : {t : ℕ} {low high again : Bool} → t ≡ big_at s (at + 4 * k) 4 → leb 4 t ≡ low → ltb t (128 ^ 4) ≡ high
+      → among t (numbers_at s (at + 4 * k + 4) (n - k - 1)) ≡ again
+      → numbers_good (numbers_at s (at + 4 * k) (n - k)) ≡ low && (high && (not again && numbers_good (numbers_at s (at + 4 * (k + 1)) (n - (k + 1)))))
+  unfolding numbers_good
+  number_judged e a b f = rw (number_here, ← e, a, b, ← numbers_after, f)
 
 -- the most that a number may be
 pub number_small : (t : ℕ) → t ≤ 268435455 → ltb t (128 ^ 4) ≡ true

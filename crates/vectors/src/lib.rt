@@ -1,13 +1,18 @@
 #![tactic(auto)]
 // How the input of a case is laid out: in parts, each with how often it stands there and its length, in two bytes each, and its bytes.
-ghost use Rattle.std.specs.Prelude.{map, ◌-◌, ◌≤◌, length, replicate, Some};
+ghost use Rattle.std.specs.Prelude.{map, ◌-◌, ◌<◌, ◌≤◌, length, take, replicate, IfOk, Some};
+ghost use Rattle.std.specs.Io.KnownBytes.{Consumes, IsAtEnd};
 ghost use Rattle.std.specs.List.{flat_map};
 ghost use Rattle.runs.specs.Digits.{digits};
 ghost use Rattle.runs.specs.Over.{Wrote};
 ghost use Rattle.vectors.specs.Blocks.{fitting, fours, blocks_in};
 ghost use Rattle.vectors.specs.Hex.{spaced_hex};
 
-use std::fmt;
+#[cfg(test)]
+mod tests;
+
+use std::io::Read;
+use std::{fmt, io};
 
 // Puts numbers into `out` as four bytes each, as many as it has room for, and answers how many bytes they are.
 pub fn laid(numbers: &[u32], out: &mut [u8]) -> usize
@@ -70,6 +75,24 @@ pub fn joined(parts: &[u8], out: &mut [u8]) -> usize
         at = begin + size;
     }
     n
+}
+
+// Fills `buf` with the bytes that come next, and answers how many there were: fewer only where the input ends. On an error `buf` holds what came before it.
+// `read_exact` does not tell how many there were, and of `take` with `read_to_end` no clause says that it keeps within its limit.
+pub fn read_full<R: Read>(input: &mut R, buf: &mut [u8]) -> io::Result<usize>
+    ensures upper_bound { IfOk result (λ n. n ≤ length buf.new) }
+    ensures consumed { IfOk result (λ n. Consumes (R.remaining input.old) (R.remaining input.new) (take n buf.new)) }
+    ensures ended { IfOk result (λ n. n < length buf.new → IsAtEnd (R.remaining input.new)) }
+{
+    let mut n = 0;
+    while n < buf.len() {
+        let more = input.read(&mut buf[n..])?;
+        if more == 0 {
+            return Ok(n);
+        }
+        n += more;
+    }
+    Ok(n)
 }
 
 // Bytes as the vector programs print them: in hexadecimal, a space before each.
